@@ -1,0 +1,4 @@
+pub mod Lists
+pub mod Build
+pub mod Master
+pub mod Pieces

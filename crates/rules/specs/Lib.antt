@@ -1,0 +1,10 @@
+pub mod Floats
+pub mod Lists
+pub mod Questions
+pub mod Fused
+pub mod Tables
+pub mod Solve
+pub mod Build
+pub mod Query
+pub mod Master
+pub mod Pieces

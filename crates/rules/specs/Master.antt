@@ -1,0 +1,122 @@
+-- The check of masters, module 7 of document 01: its questions, its endpoint and joint equations over ℤ, and its answer. A master is document 01's word for a curve
+-- kept in whole numbers, a set all that one check is given. Assumes nothing.
+use Prim.Native.Nat.{ℕ, zero, suc, _+_, _*_, _-_, _^_}
+use mathlib.Core.Bool.{Bool, true, false, cond, _&&_}
+use mathlib.Core.List.{List, [], _∷_}
+use lib.IntN.{ℤ, pos, negsuc, natAbs, _+ℤ_, _*ℤ_}
+use lib.ListN.{length, getD}
+use lib.Dec.{leb, eqb}
+use Rattle.rules.specs.declared.MasterAnswer.{MasterAnswer}
+use Rattle.rules.specs.declared.MasterAnswer.the-variants.{Yes, No, Refused}
+use Rattle.rules.specs.Lists.{all, every}
+use Rattle.rules.specs.Questions.{Question, ask, firstNo}
+use Rattle.rules.specs.Tables.{mOf}
+use Rattle.rules.specs.Build.{validOrder}
+
+-- "A set is all that one check is given: order, waypoints, start state, end state and table."
+pub record MasterSet : Type 0 where
+  pub order : ℕ
+  pub waypoints : List ℤ
+  pub start : List ℤ
+  pub end : List ℤ
+  pub table : List ℤ
+
+-- ---- questions before a master check
+
+-- "within ±1,099,511,627,776, which is 2^40"
+unfoldable pub within : ℤ → Bool
+within z = leb (natAbs z) (2 ^ 40)
+
+unfoldable pub masterQuestions : MasterSet → List Question
+masterQuestions s =
+    let m = mOf (s .order) in
+    let points = length (s .waypoints) in
+    ask (validOrder (s .order)) 302 ∷
+    ask (leb 2 points) 304 ∷
+    ask (leb points 257) 2 ∷
+    ask (eqb (length (s .start)) m) 303 ∷
+    ask (eqb (length (s .end)) m) 303 ∷
+    ask (eqb (length (s .table)) ((points - 1) * (s .order + 1))) 2 ∷
+    ask (all within (s .waypoints) && all within (s .start) && all within (s .end) && all within (s .table)) 4 ∷ []
+
+unfoldable pub masterNumber : MasterSet → ℕ
+masterNumber s = firstNo (masterQuestions s)
+
+-- ---- the equations
+
+-- the number at a place
+abbrev pub at : List ℤ → ℕ → ℤ
+at zs i = getD zs i (pos 0)
+
+-- coefficient k of segment i, where a segment has 2m + 2 of them
+abbrev pub coefficient : ℕ → List ℤ → ℕ → ℕ → ℤ
+coefficient m table i k = at table (i * (2 * m + 2) + k)
+
+-- "C(k,r) the binomial"
+unfoldable pub binomial : ℕ → ℕ → ℕ
+binomial k zero = 1
+binomial zero (suc r) = 0
+binomial (suc k) (suc r) = binomial k r + binomial k (suc r)
+
+-- f 0 + f 1 + .. + f (n − 1)
+unfoldable pub sumℤ : ℕ → (ℕ → ℤ) → ℤ
+sumℤ zero f = pos 0
+sumℤ (suc n) f = sumℤ n f +ℤ f n
+
+-- "the sum of C(k,r) × coefficient k", over all coefficients of segment i: coefficient r of the same curve about the segment's end. At r = 0 it is the sum of the coefficients.
+unfoldable pub atEnd : ℕ → List ℤ → ℕ → ℕ → ℤ
+atEnd m table i r = sumℤ (2 * m + 2) (λ k. pos (binomial k r) *ℤ coefficient m table i k)
+
+-- two whole numbers are the same
+unfoldable pub same : ℤ → ℤ → Bool
+same (pos a) (pos b) = eqb a b
+same (pos a) (negsuc b) = false
+same (negsuc a) (pos b) = false
+same (negsuc a) (negsuc b) = eqb a b
+
+module _ (m n : ℕ) (table : List ℤ) where
+  -- "in every segment, coefficient 0 is its left waypoint and the coefficients sum to its right one": of n segments
+  unfoldable pub meetsWaypoints : List ℤ → Bool
+  meetsWaypoints w = every n (λ i. same (coefficient m table i 0) (at w i) && same (atEnd m table i 0) (at w (suc i)))
+
+  -- "coefficients 1 to m of the first segment are the start state"
+  unfoldable pub meetsStart : List ℤ → Bool
+  meetsStart start = every m (λ r. same (coefficient m table 0 (suc r)) (at start r))
+
+  -- "in the last, the sum of C(k,r) × coefficient k is end number r, r = 1 to m"
+  unfoldable pub meetsEnd : List ℤ → Bool
+  meetsEnd end = every m (λ r. same (atEnd m table (n - 1) (suc r)) (at end r))
+
+  -- "at each joint that sum, r = 1 to 2m, is coefficient r of the next segment": r from 1 to the number given
+  unfoldable pub meetsJoints : ℕ → Bool
+  meetsJoints orders = every (n - 1) (λ i. every orders (λ r. same (atEnd m table i (suc r)) (coefficient m table (suc i) (suc r))))
+
+-- the endpoint equations, and the joint equations
+unfoldable pub endpointEquations : MasterSet → Bool
+endpointEquations s =
+    let m = mOf (s .order) in
+    let n = length (s .waypoints) - 1 in
+    meetsWaypoints m n (s .table) (s .waypoints) && meetsStart m n (s .table) (s .start) && meetsEnd m n (s .table) (s .end)
+
+unfoldable pub jointEquations : MasterSet → Bool
+jointEquations s =
+    let m = mOf (s .order) in
+    meetsJoints m (length (s .waypoints) - 1) (s .table) (2 * m)
+
+-- ---- the answer
+
+-- "Then yes or no; no is not a refusal": what an answer says in document 01's terms. The number is 0 where the check answers yes or no.
+pub record MasterSays : Type 0 where
+  pub number : ℕ
+  pub good : Bool
+
+unfoldable pub masterSays : MasterAnswer → MasterSays
+masterSays Yes = record { number = 0; good = true }
+masterSays No = record { number = 0; good = false }
+masterSays (Refused number) = record { number = number; good = false }
+
+-- refused by the first no of the questions, else yes exactly where all the equations hold
+unfoldable pub checkMaster : MasterSet → MasterSays
+checkMaster s =
+    let number = masterNumber s in
+    record { number = number; good = eqb number 0 && endpointEquations s && jointEquations s }

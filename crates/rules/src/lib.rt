@@ -1,0 +1,65 @@
+// The types that travel between calls. What they mean, and what every function of the library is
+// held to, stands in specs/: document 01 as definitions, a file a subject. This crate has no code.
+
+// A position along s: the source's path parameter.
+pub struct PathParam(pub f64);
+
+// A position counted in segments: the source's normalised segment units. A segment's tau is one.
+pub struct SegmentUnits(pub f64);
+
+// What a query does with an s outside the range: refuse it, or set it to the nearest end.
+pub enum OutOfRangeMode {
+    Error,
+    Clamp,
+}
+
+// A boundary state: none, which is all zero, or so many rows (axes) and columns (numbers of a node).
+// The numbers are a slice beside it, column-major, and nobody looks at it where the state is none.
+pub enum BoundaryState {
+    None,
+    Given {
+        rows: usize,
+        columns: usize,
+        per_unit_of_s: bool,
+    },
+}
+
+// What a build is told beside the points and the states' numbers.
+pub struct SplineConfig {
+    pub order: usize,
+    pub s_min: PathParam,
+    pub s_max: PathParam,
+    pub out_of_range_mode: OutOfRangeMode,
+    pub start_state: BoundaryState,
+    pub end_state: BoundaryState,
+}
+
+// What a path is beside its coefficients. It is handed over by value, its three floats with it.
+pub struct PathRecord {
+    pub order: usize,
+    pub segments: usize,
+    pub axes: usize,
+    pub s_min: PathParam,
+    pub s_max: PathParam,
+    pub inv_ds: f64,
+    pub mode: OutOfRangeMode,
+}
+
+// A build's answer: 0 or the refusal's number, with the record beside it.
+pub struct BuildAnswer {
+    pub number: u32,
+    pub path: PathRecord,
+}
+
+// A lookup's answer: a segment with its tau, or the s that was refused.
+pub enum Lookup {
+    At { segment: usize, tau: SegmentUnits },
+    OutOfRange(PathParam),
+}
+
+// A master check's answer. No is not a refusal.
+pub enum MasterAnswer {
+    Yes,
+    No,
+    Refused(u32),
+}
