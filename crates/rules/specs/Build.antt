@@ -16,7 +16,7 @@ use Rattle.rules.specs.Floats.{_⊕_, _⊖_, _⊗_, _⊘_, _!_, +0, ofCo
 use Rattle.rules.specs.Lists.{joined, listed, all, every}
 use Rattle.rules.specs.Questions.{Question, ask, firstNo}
 use Rattle.rules.specs.Tables.{mOf, A, C, R, H}
-use Rattle.rules.specs.Solve.{entry, times, minus, factor, solve, nonzeroPivots, nodeMatrix, solvedC}
+use Rattle.rules.specs.Solve.{entry, times, minus, solve, nonzeroPivots, nodeFactors, solvedC}
 
 -- What a build is given, the coefficient buffer aside. "Waypoints are column-major, axes by points"; so are the numbers of a state, axes by m.
 pub record BuildInput : Type 0 where
@@ -62,7 +62,7 @@ finiteState (Given rows columns perUnit) numbers = all finite numbers
 
 -- 10. "Is every pivot other than zero?": of the matrix at each inner node, which is a point between the first and the last
 unfoldable pub everyPivot : ℕ → ℕ → Bool
-everyPivot m points = every (points - 2) (λ i. nonzeroPivots m (factor m (nodeMatrix m i)))
+everyPivot m points = every (points - 2) (λ i. nonzeroPivots m (nodeFactors m i))
 
 -- the questions about a build into a buffer of so many cells, in order
 unfoldable pub buildQuestions : BuildInput → ℕ → List Question
@@ -70,17 +70,17 @@ buildQuestions b cells =
     let cfg = b .config in
     let m = mOf (cfg .order) in
     let segments = b .points - 1 in
-    ask (validOrder (cfg .order)) 302 ∷
-    ask (leb 2 (b .points)) 304 ∷
-    ask (leb (b .points) 257) 2 ∷
-    ask (validAxes (b .axes)) 300 ∷
-    ask (eqb (length (b .waypoints)) (b .axes * b .points)) 3 ∷
-    ask (validState (b .axes) m (cfg .«start_state») (b .start)) 303 ∷
+    ask (validOrder (cfg .order)) 302 ∷  -- 1
+    ask (leb 2 (b .points)) 304 ∷  -- 2
+    ask (leb (b .points) 257) 2 ∷  -- 3
+    ask (validAxes (b .axes)) 300 ∷  -- 4
+    ask (eqb (length (b .waypoints)) (b .axes * b .points)) 3 ∷  -- 5
+    ask (validState (b .axes) m (cfg .«start_state») (b .start)) 303 ∷  -- 6
     ask (validState (b .axes) m (cfg .«end_state») (b .end)) 303 ∷
-    ask (eqb cells (tableLength (b .axes) segments (cfg .order))) 2 ∷
-    ask (validRange segments (cfg .«s_min») (cfg .«s_max»)) 301 ∷
-    ask (all finite (b .waypoints) && finiteState (cfg .«start_state») (b .start) && finiteState (cfg .«end_state») (b .end)) 4 ∷
-    ask (everyPivot m (b .points)) 307 ∷ []
+    ask (eqb cells (tableLength (b .axes) segments (cfg .order))) 2 ∷  -- 7
+    ask (validRange segments (cfg .«s_min») (cfg .«s_max»)) 301 ∷  -- 8
+    ask (all finite (b .waypoints) && finiteState (cfg .«start_state») (b .start) && finiteState (cfg .«end_state») (b .end)) 4 ∷  -- 9
+    ask (everyPivot m (b .points)) 307 ∷ []  -- 10
 
 unfoldable pub buildNumber : BuildInput → ℕ → ℕ
 buildNumber b cells = firstNo (buildQuestions b cells)
@@ -150,8 +150,8 @@ module _ (m n : ℕ) (w start end : List Float) where
 
   -- "past the first then minus A times the previous solved right side"; "solved with" the node's matrix
   unfoldable pub solvedSide : ℕ → List Float
-  solvedSide zero = solve m (factor m (nodeMatrix m 0)) (boundedSide 0)
-  solvedSide (suc i) = solve m (factor m (nodeMatrix m (suc i))) (minus m (boundedSide (suc i)) (times m (A m) (solvedSide i)))
+  solvedSide zero = solve m (nodeFactors m 0) (boundedSide 0)
+  solvedSide (suc i) = solve m (nodeFactors m (suc i)) (minus m (boundedSide (suc i)) (times m (A m) (solvedSide i)))
 
   -- "Back: u = solved right side − solved C · next u": the numbers of inner node i, which k inner nodes follow
   unfoldable pub innerNumbers : ℕ → ℕ → List Float

@@ -1,7 +1,8 @@
--- The check of masters, module 7 of document 01: its questions, its endpoint and joint equations over ℤ, and its answer. A master is document 01's word for a curve
--- kept in whole numbers, a set all that one check is given. Assumes nothing.
-use Prim.Native.Nat.{ℕ, zero, suc, _+_, _*_, _-_, _^_}
-use mathlib.Core.Bool.{Bool, true, false, cond, _&&_}
+-- The check of masters, module 7 of document 01: its questions, its endpoint and joint equations over ℤ, and its answer. A master is the paper's word for
+-- a curve kept in whole numbers, a set its word for all that one check is given, a joint for the point where two segments meet. Assumes nothing.
+use mathlib.Core.Path.{_≡_}
+use Prim.Native.Nat.{ℕ, zero, suc, _+_, _*_, _-_, _^_, _<_}
+use mathlib.Core.Bool.{Bool, true, false, _&&_}
 use mathlib.Core.List.{List, [], _∷_}
 use lib.IntN.{ℤ, pos, negsuc, natAbs, _+ℤ_, _*ℤ_}
 use lib.ListN.{length, getD}
@@ -63,7 +64,7 @@ unfoldable pub sumℤ : ℕ → (ℕ → ℤ) → ℤ
 sumℤ zero f = pos 0
 sumℤ (suc n) f = sumℤ n f +ℤ f n
 
--- "the sum of C(k,r) × coefficient k", over all coefficients of segment i: coefficient r of the same curve about the segment's end. At r = 0 it is the sum of the coefficients.
+-- "the sum of C(k,r) × coefficient k", over the coefficients of segment i: coefficient r of the segment taken about its end. At r = 0 it is their plain sum.
 unfoldable pub atEnd : ℕ → List ℤ → ℕ → ℕ → ℤ
 atEnd m table i r = sumℤ (2 * m + 2) (λ k. pos (binomial k r) *ℤ coefficient m table i k)
 
@@ -74,10 +75,15 @@ same (pos a) (negsuc b) = false
 same (negsuc a) (pos b) = false
 same (negsuc a) (negsuc b) = eqb a b
 
+-- A table of n segments. What document 01 counts from 1, a state's numbers and a joint's r, is suc r here.
 module _ (m n : ℕ) (table : List ℤ) where
-  -- "in every segment, coefficient 0 is its left waypoint and the coefficients sum to its right one": of n segments
-  unfoldable pub meetsWaypoints : List ℤ → Bool
-  meetsWaypoints w = every n (λ i. same (coefficient m table i 0) (at w i) && same (atEnd m table i 0) (at w (suc i)))
+  -- "in every segment, coefficient 0 is its left waypoint"
+  unfoldable pub meetsLeft : List ℤ → Bool
+  meetsLeft w = every n (λ i. same (coefficient m table i 0) (at w i))
+
+  -- "and the coefficients sum to its right one"
+  unfoldable pub meetsRight : List ℤ → Bool
+  meetsRight w = every n (λ i. same (atEnd m table i 0) (at w (suc i)))
 
   -- "coefficients 1 to m of the first segment are the start state"
   unfoldable pub meetsStart : List ℤ → Bool
@@ -87,21 +93,36 @@ module _ (m n : ℕ) (table : List ℤ) where
   unfoldable pub meetsEnd : List ℤ → Bool
   meetsEnd end = every m (λ r. same (atEnd m table (n - 1) (suc r)) (at end r))
 
-  -- "at each joint that sum, r = 1 to 2m, is coefficient r of the next segment": r from 1 to the number given
+  -- "at each joint that sum .. is coefficient r of the next segment", for r = 1 to the number given
   unfoldable pub meetsJoints : ℕ → Bool
-  meetsJoints orders = every (n - 1) (λ i. every orders (λ r. same (atEnd m table i (suc r)) (coefficient m table (suc i) (suc r))))
+  meetsJoints upTo = every (n - 1) (λ i. every upTo (λ r. same (atEnd m table i (suc r)) (coefficient m table (suc i) (suc r))))
 
--- the endpoint equations, and the joint equations
+abbrev pub segments : MasterSet → ℕ
+segments s = length (s .waypoints) - 1
+
+-- "Endpoint equations"
 unfoldable pub endpointEquations : MasterSet → Bool
 endpointEquations s =
     let m = mOf (s .order) in
-    let n = length (s .waypoints) - 1 in
-    meetsWaypoints m n (s .table) (s .waypoints) && meetsStart m n (s .table) (s .start) && meetsEnd m n (s .table) (s .end)
+    meetsLeft m (segments s) (s .table) (s .waypoints)
+    && meetsRight m (segments s) (s .table) (s .waypoints)
+    && meetsStart m (segments s) (s .table) (s .start)
+    && meetsEnd m (segments s) (s .table) (s .end)
 
+-- "Joint equations": "r = 1 to 2m"
 unfoldable pub jointEquations : MasterSet → Bool
 jointEquations s =
     let m = mOf (s .order) in
-    meetsJoints m (length (s .waypoints) - 1) (s .table) (2 * m)
+    meetsJoints m (segments s) (s .table) (2 * m)
+
+-- The same equations with `≡` for the tests. `yes-iff` of proofs/Master.antt: the check says yes to a set exactly where no question refuses it and they hold.
+pub record Equations (s : MasterSet) : Type 0 where
+  pub left : (i : ℕ) → i < segments s → coefficient (mOf (s .order)) (s .table) i 0 ≡ at (s .waypoints) i
+  pub right : (i : ℕ) → i < segments s → atEnd (mOf (s .order)) (s .table) i 0 ≡ at (s .waypoints) (suc i)
+  pub start : (r : ℕ) → r < mOf (s .order) → coefficient (mOf (s .order)) (s .table) 0 (suc r) ≡ at (s .start) r
+  pub end : (r : ℕ) → r < mOf (s .order) → atEnd (mOf (s .order)) (s .table) (segments s - 1) (suc r) ≡ at (s .end) r
+  pub joint : (i : ℕ) → i < segments s - 1 → (r : ℕ) → r < 2 * mOf (s .order)
+      → atEnd (mOf (s .order)) (s .table) i (suc r) ≡ coefficient (mOf (s .order)) (s .table) (suc i) (suc r)
 
 -- ---- the answer
 

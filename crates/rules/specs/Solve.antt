@@ -115,17 +115,16 @@ solveMatrix m f a =
 
 -- ---- the matrices of the inner nodes, which m and the node's place alone decide
 
--- C solved with a node's matrix
-unfoldable pub solvedWith : ℕ → List Float → List Float
-solvedWith m a = solveMatrix m (factor m a) (C m)
-
 -- "The matrix is B, past the first B − A·(previous solved C)": at inner node i, counted from 0
 unfoldable pub nodeMatrix : ℕ → ℕ → List Float
 nodeMatrix m zero = B m
 nodeMatrix m (suc i) =
-    let previous = solvedWith m (nodeMatrix m i) in
+    let previous = solveMatrix m (factor m (nodeMatrix m i)) (C m) in
     matrix m m (λ r c. entry m (B m) r c ⊖ sumOf m (λ k. entry m (A m) r k ⊗ entry m previous k c))
 
--- "solved C" of inner node i
+unfoldable pub nodeFactors : ℕ → ℕ → Factored
+nodeFactors m i = factor m (nodeMatrix m i)
+
+-- "solved C" at inner node i
 unfoldable pub solvedC : ℕ → ℕ → List Float
-solvedC m i = solvedWith m (nodeMatrix m i)
+solvedC m i = solveMatrix m (nodeFactors m i) (C m)
