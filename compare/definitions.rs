@@ -1,6 +1,8 @@
-//! Tries the definitions of the crate `rules` on random builds, queries and fused steps. The Rust
-//! text of copp computes each expected number; this program prints a module for antt that has one
-//! claim a trial, that the definitions give the same number. `compare/definitions` runs it.
+//! Tries the definitions of the crate `rules` on random input. Builds, queries and fused steps: the
+//! Rust text of copp computes each expected number. Refusals and master checks, which it does not
+//! have: document 01's questions as plain tests here, and tables that are good, or damaged, by how
+//! they are made. This program prints a module for antt with one claim a trial, that the
+//! definitions give what is expected. `compare/definitions` runs it.
 //!
 //! Arguments: the seed, the number of trials of each kind, and proofs/Pieces.antt, whose `use`
 //! lines and whose list of definitions to compute with the module takes over.
@@ -55,7 +57,7 @@ impl Random {
     fn unit(&mut self) -> f64 {
         (self.next() >> 11) as f64 / (1u64 << 53) as f64
     }
-    /// A coordinate: a small whole number, a number with all its digits, a zero of either sign, or one far off in size.
+    /// A small whole number, a number with all its digits, a zero of either sign, or one far off in size.
     fn coordinate(&mut self) -> f64 {
         match self.below(10) {
             0..=2 => self.below(41) as f64 - 20.0,
@@ -64,60 +66,25 @@ impl Random {
             _ => (self.unit() - 0.5) * 2f64.powi(self.below(120) as i32 - 60),
         }
     }
-    /// Any float: a special one, any bits, or a coordinate.
+    fn coordinates(&mut self, n: usize) -> Vec<f64> {
+        (0..n).map(|_| self.coordinate()).collect()
+    }
+    /// A special float, any bits, or a coordinate.
     fn float(&mut self) -> f64 {
-        let special = [
-            0.0,
-            -0.0,
-            1.0,
-            -1.0,
-            1.5,
-            f64::INFINITY,
-            f64::NEG_INFINITY,
-            f64::NAN,
-            f64::MAX,
-            f64::MIN,
-            f64::MIN_POSITIVE,
-            5e-324,
-            -5e-324,
-            1.0 + f64::EPSILON,
-            1.0 - f64::EPSILON / 2.0,
-        ];
-        match self.below(3) {
-            0 => self.pick(&special),
-            1 => f64::from_bits(self.next()),
+        let small = [f64::MIN_POSITIVE, 5e-324, -5e-324];
+        let near_one = [1.0, -1.0, 1.5, 1.0 + f64::EPSILON, 1.0 - f64::EPSILON / 2.0];
+        match self.below(6) {
+            0 => self.pick(&small),
+            1 => self.pick(&near_one),
+            2 => self.pick(&[0.0, -0.0, f64::MAX, f64::MIN]),
+            3 => self.pick(&NOT_FINITE),
+            4 => f64::from_bits(self.next()),
             _ => self.coordinate(),
         }
     }
 }
 
-/// A state as the library is given it, and as the Rust is: with a marked state's divisions done.
-struct State {
-    marked: Option<bool>,
-    numbers: Vec<f64>,
-    in_rust: Option<DMatrix<f64>>,
-}
-
-fn state(random: &mut Random, axes: usize, m: usize, inv_ds: f64) -> State {
-    if random.one_in(3) {
-        return State {
-            marked: None,
-            numbers: vec![],
-            in_rust: None,
-        };
-    }
-    let marked = random.one_in(2);
-    let numbers: Vec<f64> = (0..axes * m).map(|_| random.coordinate()).collect();
-    let divided = |at: usize| (0..=at / axes).fold(numbers[at], |x, _| x / inv_ds);
-    let cells: Vec<f64> = (0..axes * m)
-        .map(|at| if marked { divided(at) } else { numbers[at] })
-        .collect();
-    State {
-        marked: Some(marked),
-        numbers,
-        in_rust: Some(DMatrix::from_column_slice(axes, m, &cells)),
-    }
-}
+const NOT_FINITE: [f64; 3] = [f64::NAN, f64::INFINITY, f64::NEG_INFINITY];
 
 // ---- antt
 
@@ -129,121 +96,358 @@ fn float(x: f64) -> String {
     }
 }
 
-fn list(xs: &[f64]) -> String {
-    let cells: String = xs.iter().map(|&x| format!("({}) ∷ ", float(x))).collect();
+fn list<T: Copy>(xs: &[T], cell: impl Fn(T) -> String) -> String {
+    let cells: String = xs.iter().map(|&x| format!("({}) ∷ ", cell(x))).collect();
     format!("({cells}[])")
 }
 
-fn boundary(s: &State, axes: usize, m: usize) -> String {
-    s.marked.map_or("None".to_string(), |mark| {
-        format!("Given {axes} {m} {mark}")
-    })
+fn whole(z: i64) -> String {
+    format!("{} {}", if z < 0 { "negative" } else { "pos" }, z.unsigned_abs())
 }
 
-struct Build {
-    text: String,
-    path: SplinePath,
-    range: (f64, f64),
-    clamp: bool,
+fn param(x: f64) -> String {
+    format!("record {{ 0 = {} }}", float(x))
 }
 
-fn build(random: &mut Random, axes: usize) -> Build {
-    let order = random.pick(&[3, 5, 7]);
-    let m = (order - 1) / 2;
-    let points = 2 + random.below(5) as usize;
-    let clamp = random.one_in(2);
-    let s_min = random.coordinate();
-    let s_max = s_min + random.coordinate().abs() + random.pick(&[0.5, 1.0, 3.0]);
-    let inv_ds = (points - 1) as f64 / (s_max - s_min);
-    let waypoints: Vec<f64> = (0..axes * points).map(|_| random.coordinate()).collect();
-    let (start, end) = (
-        state(random, axes, m, inv_ds),
-        state(random, axes, m, inv_ds),
-    );
-    let text = format!(
-        "(record {{ config = record {{ order = {order}; «s_min» = record {{ 0 = {} }}; «s_max» = record {{ 0 = {} }}; \
-         «out_of_range_mode» = {}; «start_state» = {}; «end_state» = {} }}; points = {points}; axes = {axes}; \
-         waypoints = {}; start = {}; end = {} }})",
-        float(s_min),
-        float(s_max),
-        if clamp { "Clamp" } else { "Error" },
-        boundary(&start, axes, m),
-        boundary(&end, axes, m),
-        list(&waypoints),
-        list(&start.numbers),
-        list(&end.numbers),
-    );
-    let config = SplineConfig {
-        order,
-        s_min,
-        s_max,
-        out_of_range_mode: if clamp {
-            OutOfRangeMode::Clamp
-        } else {
-            OutOfRangeMode::Error
-        },
-        start_state: start.in_rust,
-        end_state: end.in_rust,
-        ..SplineConfig::default()
-    };
-    let path = SplinePath::from_waypoints(
-        &DMatrix::from_column_slice(axes, points, &waypoints),
-        &config,
-    )
-    .unwrap();
-    Build {
-        text,
-        path,
-        range: (s_min, s_max),
-        clamp,
+fn mode(clamp: bool) -> &'static str {
+    if clamp {
+        "Clamp"
+    } else {
+        "Error"
     }
 }
 
-fn built(random: &mut Random) -> String {
-    let axes = 1 + random.below(3) as usize;
-    let b = build(random, axes);
-    format!("built {} {}", b.text, list(coefficients(&b.path)))
+// ---- builds
+
+/// None, or rows, columns and the mark, with the numbers.
+#[derive(Clone)]
+struct State {
+    given: Option<(usize, usize, bool)>,
+    numbers: Vec<f64>,
 }
 
-fn queried(random: &mut Random) -> String {
-    let b = build(random, 1);
-    let (lo, hi) = b.range;
+impl State {
+    fn random(random: &mut Random, axes: usize, m: usize) -> State {
+        if random.one_in(3) {
+            let numbers = random.pick(&[0, 2]);
+            return State { given: None, numbers: vec![f64::NAN; numbers] };
+        }
+        let marked = random.one_in(2);
+        State { given: Some((axes, m, marked)), numbers: random.coordinates(axes * m) }
+    }
+    fn text(&self) -> String {
+        self.given.map_or("None".to_string(), |(rows, columns, marked)| format!("Given {rows} {columns} {marked}"))
+    }
+    fn fits(&self, axes: usize, m: usize) -> bool {
+        self.given.is_none_or(|(rows, columns, _)| rows == axes && columns == m && self.numbers.len() == axes * m)
+    }
+    fn is_finite(&self) -> bool {
+        self.given.is_none() || self.numbers.iter().all(|x| x.is_finite())
+    }
+    /// As the Rust is given it: a marked state's divisions done.
+    fn in_rust(&self, inv_ds: f64) -> Option<DMatrix<f64>> {
+        self.given.map(|(rows, columns, marked)| {
+            let divided = |at: usize| (0..=at / rows).fold(self.numbers[at], |x, _| x / inv_ds);
+            let number = |at: usize| if marked { divided(at) } else { self.numbers[at] };
+            let cells: Vec<f64> = (0..rows * columns).map(number).collect();
+            DMatrix::from_column_slice(rows, columns, &cells)
+        })
+    }
+}
+
+#[derive(Clone)]
+struct Build {
+    order: usize,
+    points: usize,
+    axes: usize,
+    waypoints: Vec<f64>,
+    start: State,
+    end: State,
+    s_min: f64,
+    s_max: f64,
+    clamp: bool,
+    cells: usize,
+}
+
+/// Question 8 of document 01, and the quotient that it asks about.
+fn range(segments: usize, s_min: f64, s_max: f64) -> Option<f64> {
+    let inv_ds = segments as f64 / (s_max - s_min);
+    let served = s_min.is_finite() && s_max.is_finite() && s_min < s_max && inv_ds.is_finite() && inv_ds > 0.0;
+    served.then_some(inv_ds)
+}
+
+impl Build {
+    fn random(random: &mut Random, axes: usize) -> Build {
+        let order = random.pick(&[3, 5, 7]);
+        let m = (order - 1) / 2;
+        let points = 2 + random.below(5) as usize;
+        let s_min = random.coordinate();
+        Build {
+            order,
+            points,
+            axes,
+            waypoints: random.coordinates(axes * points),
+            start: State::random(random, axes, m),
+            end: State::random(random, axes, m),
+            s_min,
+            s_max: s_min + random.coordinate().abs() + random.pick(&[0.5, 1.0, 3.0]),
+            clamp: random.one_in(2),
+            cells: axes * (points - 1) * (order + 1),
+        }
+    }
+    fn damage(&mut self, random: &mut Random) {
+        match random.below(11) {
+            0 => self.order = random.pick(&[0, 1, 2, 4, 6, 8, 9]),
+            1 => self.points = random.pick(&[0, 1]),
+            2 => self.points = random.pick(&[258, 300]),
+            3 => self.axes = random.pick(&[0, 9]),
+            4 => drop(self.waypoints.pop()),
+            5 => self.start = State { given: Some((self.axes + 1, self.order / 2, false)), numbers: vec![] },
+            6 => self.end = State { given: Some((self.axes, self.order / 2, true)), numbers: vec![1.0] },
+            7 => self.cells += 1,
+            8 => {
+                let bad = [(1.0, 1.0), (2.0, 1.0), (f64::NAN, 1.0), (0.0, f64::INFINITY), (f64::MIN, f64::MAX), (0.0, 5e-324)];
+                (self.s_min, self.s_max) = random.pick(&bad);
+            }
+            9 => self.waypoints[0] = random.pick(&NOT_FINITE),
+            _ => self.end.numbers.iter_mut().for_each(|x| *x = f64::INFINITY),
+        }
+    }
+    /// The questions of document 01 but the tenth, in its order.
+    fn number(&self) -> u32 {
+        let m = self.order / 2;
+        if ![3, 5, 7].contains(&self.order) {
+            302
+        } else if self.points < 2 {
+            304
+        } else if self.points > 257 {
+            2
+        } else if !(1..=8).contains(&self.axes) {
+            300
+        } else if self.waypoints.len() != self.axes * self.points {
+            3
+        } else if !self.start.fits(self.axes, m) || !self.end.fits(self.axes, m) {
+            303
+        } else if self.cells != self.axes * (self.points - 1) * (self.order + 1) {
+            2
+        } else if range(self.points - 1, self.s_min, self.s_max).is_none() {
+            301
+        } else if !self.waypoints.iter().all(|x| x.is_finite()) || !self.start.is_finite() || !self.end.is_finite() {
+            4
+        } else {
+            0
+        }
+    }
+    fn path(&self) -> SplinePath {
+        let inv_ds = range(self.points - 1, self.s_min, self.s_max).unwrap();
+        let config = SplineConfig {
+            order: self.order,
+            s_min: self.s_min,
+            s_max: self.s_max,
+            out_of_range_mode: if self.clamp { OutOfRangeMode::Clamp } else { OutOfRangeMode::Error },
+            start_state: self.start.in_rust(inv_ds),
+            end_state: self.end.in_rust(inv_ds),
+            ..SplineConfig::default()
+        };
+        SplinePath::from_waypoints(&DMatrix::from_column_slice(self.axes, self.points, &self.waypoints), &config).unwrap()
+    }
+    fn text(&self) -> String {
+        format!(
+            "(record {{ config = record {{ order = {}; «s_min» = {}; «s_max» = {}; «out_of_range_mode» = {}; «start_state» = {}; \
+             «end_state» = {} }}; points = {}; axes = {}; waypoints = {}; start = {}; end = {} }})",
+            self.order,
+            param(self.s_min),
+            param(self.s_max),
+            mode(self.clamp),
+            self.start.text(),
+            self.end.text(),
+            self.points,
+            self.axes,
+            list(&self.waypoints, float),
+            list(&self.start.numbers, float),
+            list(&self.end.numbers, float),
+        )
+    }
+}
+
+fn build(random: &mut Random) -> String {
+    let axes = 1 + random.below(3) as usize;
+    let b = Build::random(random, axes);
+    format!("holds (built {} {})", b.text(), list(coefficients(&b.path()), float))
+}
+
+fn refused_build(random: &mut Random) -> String {
+    let axes = 1 + random.below(3) as usize;
+    let mut b = Build::random(random, axes);
+    for _ in 0..1 + random.below(3) {
+        b.damage(random);
+    }
+    format!("eqb (buildNumber {} {}) {}", b.text(), b.cells, b.number())
+}
+
+// ---- queries
+
+fn query(random: &mut Random) -> String {
+    let b = Build::random(random, 1);
+    let (lo, hi) = (b.s_min, b.s_max);
     let within = lo + random.unit() * (hi - lo);
-    let inside = random
-        .pick(&[lo, hi, within, within, within, within])
-        .clamp(lo, hi);
-    let s = if b.clamp {
-        random.pick(&[
-            inside,
-            inside,
-            lo - 1.0,
-            hi + 1.0,
-            f64::INFINITY,
-            f64::NEG_INFINITY,
-        ])
-    } else {
-        inside
-    };
+    let inside = random.pick(&[lo, hi, within, within, within, within]).clamp(lo, hi);
+    let outside = random.pick(&[lo - 1.0, hi + 1.0, f64::INFINITY, f64::NEG_INFINITY]);
+    let s = if b.clamp && random.one_in(3) { outside } else { inside };
     let mut out = [[0.0]; 4];
     let [q, dq, ddq, dddq] = &mut out;
-    b.path.eval_at::<3>(s.clamp(lo, hi), 1, q, dq, ddq, dddq);
-    format!("queried {} ({}) {}", b.text, float(s), list(&out.concat()))
+    b.path().eval_at::<3>(s.clamp(lo, hi), 1, q, dq, ddq, dddq);
+    format!("holds (queried {} ({}) {})", b.text(), float(s), list(&out.concat(), float))
 }
 
-fn stepped(random: &mut Random) -> String {
-    let (a, b) = (random.float(), random.float());
-    let c = if random.one_in(3) {
-        -(a * b)
-    } else {
-        random.float()
+struct Query {
+    order: usize,
+    segments: usize,
+    axes: usize,
+    s_min: f64,
+    s_max: f64,
+    inv_ds: f64,
+    clamp: bool,
+    cells: usize,
+    s: f64,
+    level: usize,
+    lengths: [usize; 4],
+}
+
+impl Query {
+    fn damage(&mut self, random: &mut Random) {
+        match random.below(11) {
+            0 => self.order = random.pick(&[0, 1, 4, 9]),
+            1 => self.segments = 0,
+            2 => self.segments = 257,
+            3 => self.axes = random.pick(&[0, 9]),
+            4 => self.s_max = random.pick(&[self.s_min, f64::NAN, f64::INFINITY]),
+            5 => self.inv_ds = f64::from_bits(self.inv_ds.to_bits() + 1),
+            6 => self.cells += 1,
+            7 => self.level = random.pick(&[1, 4, 255]),
+            8 => self.lengths[random.below(4) as usize] += 1,
+            9 => self.s = f64::NAN,
+            _ => self.s = random.pick(&[self.s_min - 1.0, self.s_max + 1.0, f64::INFINITY]),
+        }
+    }
+    fn number(&self) -> u32 {
+        let written = [true, self.level >= 2, self.level >= 2, self.level >= 3];
+        let served = |(length, written): (&usize, bool)| !written || *length == self.axes;
+        if ![3, 5, 7].contains(&self.order) {
+            302
+        } else if self.segments < 1 {
+            304
+        } else if self.segments > 256 {
+            2
+        } else if !(1..=8).contains(&self.axes) {
+            300
+        } else if range(self.segments, self.s_min, self.s_max) != Some(self.inv_ds) {
+            301
+        } else if self.cells != self.axes * self.segments * (self.order + 1) {
+            303
+        } else if ![0, 2, 3].contains(&self.level) {
+            308
+        } else if !self.lengths.iter().zip(written).all(served) {
+            2
+        } else if self.s.is_nan() || !self.clamp && !(self.s_min <= self.s && self.s <= self.s_max) {
+            305
+        } else {
+            0
+        }
+    }
+    fn text(&self) -> String {
+        let [q, dq, ddq, dddq] = self.lengths;
+        format!(
+            "(record {{ path = record {{ order = {}; segments = {}; axes = {}; «s_min» = {}; «s_max» = {}; «inv_ds» = {}; mode = {} }}; \
+             coefficients = replicate {} nan; s = {}; level = {} }}) (record {{ q = {q}; dq = {dq}; ddq = {ddq}; dddq = {dddq} }})",
+            self.order,
+            self.segments,
+            self.axes,
+            param(self.s_min),
+            param(self.s_max),
+            float(self.inv_ds),
+            mode(self.clamp),
+            self.cells,
+            param(self.s),
+            self.level,
+        )
+    }
+}
+
+fn refused_query(random: &mut Random) -> String {
+    let axes = 1 + random.below(3) as usize;
+    let b = Build::random(random, axes);
+    let mut q = Query {
+        order: b.order,
+        segments: b.points - 1,
+        axes,
+        s_min: b.s_min,
+        s_max: b.s_max,
+        inv_ds: range(b.points - 1, b.s_min, b.s_max).unwrap(),
+        clamp: b.clamp,
+        cells: b.cells,
+        s: b.s_min,
+        level: random.pick(&[0, 2, 3]),
+        lengths: [axes; 4],
     };
-    format!(
-        "stepped ({}) ({}) ({}) ({})",
-        float(a),
-        float(b),
-        float(c),
-        float(a.mul_add(b, c))
-    )
+    for _ in 0..1 + random.below(3) {
+        q.damage(random);
+    }
+    format!("eqb (queryNumber {}) {}", q.text(), q.number())
+}
+
+// ---- fused steps
+
+fn fused_step(random: &mut Random) -> String {
+    let (a, b) = (random.float(), random.float());
+    let c = if random.one_in(3) { -(a * b) } else { random.float() };
+    format!("holds (stepped ({}) ({}) ({}) ({}))", float(a), float(b), float(c), float(a.mul_add(b, c)))
+}
+
+// ---- master checks
+
+/// Coefficient r of a segment taken about its end.
+fn at_end(segment: &[i64], r: usize) -> i64 {
+    let binomial = |k: usize| (0..r).fold(1, |c, i| c * (k as i64 - i as i64) / (i as i64 + 1));
+    (r..segment.len()).map(|k| binomial(k) * segment[k]).sum()
+}
+
+/// A good set by how it is made: each segment goes on from the last one's end in all coefficients but
+/// the highest, and points and states are read off. Then it stays good, or one number is changed.
+fn master_check(random: &mut Random) -> String {
+    let m = 1 + random.below(3) as usize;
+    let mut whole_number = || random.below(19) as i64 - 9;
+    let mut table = vec![(0..2 * m + 2).map(|_| whole_number()).collect::<Vec<i64>>()];
+    for _ in 0..random.below(4) {
+        let last = table.last().unwrap();
+        let highest = random.below(19) as i64 - 9;
+        table.push((0..=2 * m).map(|r| at_end(last, r)).chain([highest]).collect());
+    }
+    let last = table.last().unwrap();
+    let waypoints: Vec<i64> = table.iter().map(|segment| segment[0]).chain([at_end(last, 0)]).collect();
+    let mut lists = [waypoints, table[0][1..=m].to_vec(), (1..=m).map(|r| at_end(last, r)).collect(), table.concat()];
+    let limit = 1i64 << 40;
+    let (mut number, mut good) = (0, true);
+    let which = random.below(4) as usize;
+    let place = random.below(lists[which].len() as u64) as usize;
+    match random.below(6) {
+        0 | 1 => {}
+        2 | 3 => {
+            lists[which][place] += random.pick(&[-1, 1, 7]);
+            good = false;
+        }
+        4 => {
+            lists[which][place] = random.pick(&[limit, -limit]);
+            good = false;
+        }
+        _ => {
+            lists[which][place] = random.pick(&[limit + 1, -limit - 1, i64::MAX, i64::MIN]);
+            (number, good) = (4, false);
+        }
+    }
+    let [waypoints, start, end, table] = lists.map(|l| list(&l, whole));
+    let set = format!("record {{ order = {}; waypoints = {waypoints}; start = {start}; end = {end}; table = {table} }}", 2 * m + 1);
+    format!("says ({set}) {number} {good}")
 }
 
 fn main() {
@@ -251,29 +455,30 @@ fn main() {
     let mut random = Random(arguments[1].parse::<u64>().unwrap() | 1);
     let count: usize = arguments[2].parse().unwrap();
     let pieces = std::fs::read_to_string(&arguments[3]).unwrap();
-    let uses: Vec<&str> = pieces
-        .lines()
-        .filter(|line| line.starts_with("use "))
-        .collect();
+    let uses: Vec<&str> = pieces.lines().filter(|line| line.starts_with("use ")).collect();
     let from = pieces.find("unfolding ").unwrap();
     let unfolding = &pieces[from..from + pieces[from..].find("\nboth").unwrap()];
-    println!("-- Random trials of the definitions against the Rust. Assumes nothing.");
+    println!("-- Random trials of the definitions. Assumes nothing.");
     println!("{}", uses.join("\n"));
     println!("use Prim.Native.Nat.{{ℕ}}");
-    println!("use mathlib.Core.Bool.{{true, false}}");
+    println!("use mathlib.Core.Bool.{{Bool, true, false, _&&_, Bool·beq}}");
     println!("use mathlib.Core.List.{{[], _∷_}}");
-    println!("use lib.Ieee.{{Float, nan, binary64, ofBits, ofFields, odd}}");
+    println!("use lib.Dec.{{eqb}}");
+    println!("use lib.IntN.{{pos}}");
+    println!("use lib.ListN.{{replicate}}");
+    println!("use lib.Ieee.{{Float, nan, binary64, ofBits}}");
     println!("use Rattle.rules.specs.declared.OutOfRangeMode.the-variants.{{Error, Clamp}}");
     println!("use Rattle.rules.specs.declared.BoundaryState.the-variants.{{None, Given}}");
+    println!("use Rattle.rules.specs.Tables.{{neg as negative}}");
+    println!("use Rattle.rules.specs.Master.{{MasterSet}}");
     println!("use Rattle.rules.specs.Pieces.{{built, queried, stepped}}\n");
     println!("abbrev f : ℕ → Float\nunfolding ofBits\nf bits = ofBits binary64 bits\n");
-    for kind in [built, queried, stepped] {
+    println!("abbrev says : MasterSet → ℕ → Bool → Bool");
+    println!("says s number good = eqb (checkMaster s .number) number && Bool·beq (checkMaster s .good) good\n");
+    for kind in [build, query, fused_step, refused_build, refused_query, master_check] {
         for _ in 0..count {
             let name = format!("trial-{}", random.next());
-            println!(
-                "{name} : T (holds ({}))\n{unfolding} ofBits\n{name} = tt\n",
-                kind(&mut random)
-            );
+            println!("{name} : T ({})\n{unfolding} ofBits\n{name} = tt\n", kind(&mut random));
         }
     }
 }

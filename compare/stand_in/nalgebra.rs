@@ -43,11 +43,7 @@ impl Index<usize> for Line {
 
 impl DMatrix<f64> {
     pub fn zeros(rows: usize, columns: usize) -> Self {
-        DMatrix {
-            rows,
-            columns,
-            cells: vec![0.0; rows * columns],
-        }
+        DMatrix { rows, columns, cells: vec![0.0; rows * columns] }
     }
     pub fn from_fn(rows: usize, columns: usize, f: impl Fn(usize, usize) -> f64) -> Self {
         let mut out = Self::zeros(rows, columns);
@@ -63,11 +59,7 @@ impl DMatrix<f64> {
     }
     pub fn from_column_slice(rows: usize, columns: usize, cells: &[f64]) -> Self {
         assert_eq!(cells.len(), rows * columns);
-        DMatrix {
-            rows,
-            columns,
-            cells: cells.to_vec(),
-        }
+        DMatrix { rows, columns, cells: cells.to_vec() }
     }
     pub fn as_view(&self) -> DMatrixView<'_, f64> {
         DMatrixView { matrix: self }
@@ -79,14 +71,10 @@ impl DMatrix<f64> {
         self.columns
     }
     pub fn row(&self, i: usize) -> Line {
-        Line {
-            cells: (0..self.columns).map(|j| self[(i, j)]).collect(),
-        }
+        Line { cells: (0..self.columns).map(|j| self[(i, j)]).collect() }
     }
     pub fn column(&self, j: usize) -> Line {
-        Line {
-            cells: (0..self.rows).map(|i| self[(i, j)]).collect(),
-        }
+        Line { cells: (0..self.rows).map(|i| self[(i, j)]).collect() }
     }
     pub fn row_iter(&self) -> impl Iterator<Item = Line> + '_ {
         (0..self.rows).map(|i| self.row(i))
@@ -121,14 +109,10 @@ impl DMatrixView<'_, f64> {
 
 impl DVector<f64> {
     pub fn zeros(n: usize) -> Self {
-        DVector {
-            cells: vec![0.0; n],
-        }
+        DVector { cells: vec![0.0; n] }
     }
     pub fn from_column_slice(cells: &[f64]) -> Self {
-        DVector {
-            cells: cells.to_vec(),
-        }
+        DVector { cells: cells.to_vec() }
     }
     pub fn as_slice(&self) -> &[f64] {
         &self.cells
@@ -172,18 +156,13 @@ impl IndexMut<usize> for DVector<f64> {
 
 /// A sum of products, left to right, first product unaccompanied.
 fn dot(terms: impl Iterator<Item = (f64, f64)>) -> f64 {
-    terms
-        .map(|(a, b)| a * b)
-        .reduce(|sum, product| sum + product)
-        .unwrap_or(0.0)
+    terms.map(|(a, b)| a * b).reduce(|sum, product| sum + product).unwrap_or(0.0)
 }
 
 impl Mul<&DMatrix<f64>> for &DMatrix<f64> {
     type Output = DMatrix<f64>;
     fn mul(self, right: &DMatrix<f64>) -> DMatrix<f64> {
-        DMatrix::from_fn(self.rows, right.columns, |i, j| {
-            dot((0..self.columns).map(|k| (self[(i, k)], right[(k, j)])))
-        })
+        DMatrix::from_fn(self.rows, right.columns, |i, j| dot((0..self.columns).map(|k| (self[(i, k)], right[(k, j)]))))
     }
 }
 
@@ -191,18 +170,14 @@ impl Mul<&DVector<f64>> for &DMatrix<f64> {
     type Output = DVector<f64>;
     fn mul(self, right: &DVector<f64>) -> DVector<f64> {
         let cell = |i| dot((0..self.columns).map(|k| (self[(i, k)], right[k])));
-        DVector {
-            cells: (0..self.rows).map(cell).collect(),
-        }
+        DVector { cells: (0..self.rows).map(cell).collect() }
     }
 }
 
 impl Mul<f64> for DVector<f64> {
     type Output = DVector<f64>;
     fn mul(self, by: f64) -> DVector<f64> {
-        DVector {
-            cells: self.cells.iter().map(|x| x * by).collect(),
-        }
+        DVector { cells: self.cells.iter().map(|x| x * by).collect() }
     }
 }
 
@@ -214,14 +189,7 @@ impl Sub<DMatrix<f64>> for &DMatrix<f64> {
 }
 
 fn by_place(a: &DVector<f64>, b: &DVector<f64>, f: impl Fn(f64, f64) -> f64) -> DVector<f64> {
-    DVector {
-        cells: a
-            .cells
-            .iter()
-            .zip(&b.cells)
-            .map(|(&x, &y)| f(x, y))
-            .collect(),
-    }
+    DVector { cells: a.cells.iter().zip(&b.cells).map(|(&x, &y)| f(x, y)).collect() }
 }
 
 impl Sub<DVector<f64>> for &DVector<f64> {
@@ -285,11 +253,7 @@ impl Lu {
                 }
             }
         }
-        Lu {
-            factors: a,
-            rows,
-            singular,
-        }
+        Lu { factors: a, rows, singular }
     }
 
     fn solve_cells(&self, b: &[f64]) -> Vec<f64> {
@@ -324,23 +288,13 @@ pub trait RightSide {
 
 impl RightSide for DVector<f64> {
     fn solved(&self, lu: &Lu) -> Self {
-        DVector {
-            cells: lu.solve_cells(&self.cells),
-        }
+        DVector { cells: lu.solve_cells(&self.cells) }
     }
 }
 
 impl RightSide for DMatrix<f64> {
     fn solved(&self, lu: &Lu) -> Self {
-        let cells = self
-            .cells
-            .chunks(self.rows)
-            .flat_map(|column| lu.solve_cells(column))
-            .collect();
-        DMatrix {
-            rows: self.rows,
-            columns: self.columns,
-            cells,
-        }
+        let cells = self.cells.chunks(self.rows).flat_map(|column| lu.solve_cells(column)).collect();
+        DMatrix { rows: self.rows, columns: self.columns, cells }
     }
 }

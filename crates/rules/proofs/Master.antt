@@ -2,7 +2,7 @@
 use mathlib.Core.Path.{_≡_, sym, ap, subst}
 use mathlib.Core.Logic.{_↔_}
 use mathlib.Core.Bool.{Bool, _&&_}
-use Prim.Native.Nat.{ℕ, _-_, _*_, _<_}
+use Prim.Native.Nat.{ℕ, _-_, _<_}
 use lib.Dec.{T, eqb, eqb→eq, eqb-refl}
 use lib.IntN.{ℤ, pos, negsuc}
 use lib.Ieee.Fits.{and-i, and-l, and-r}
@@ -68,7 +68,7 @@ module _ (s : MasterSet) where
         right = each n _ _ (and-r left right two);
         start = each m _ _ (and-r (left && right) start three);
         end = each m _ _ (and-r (left && right && start) end e);
-        joint = λ i h. each (2 * m) _ _ (every-at (n - 1) _ j i h);
+        joint = λ i h. each _ _ _ (every-at (n - 1) _ j i h);
       }
 
   of-equations : Equations s → T (endpointEquations s) × T (jointEquations s)
@@ -77,7 +77,7 @@ module _ (s : MasterSet) where
     and-i (left && right && start) end
         (and-i (left && right) start (and-i left right (every-same n _ _ (q .left)) (every-same n _ _ (q .right))) (every-same m _ _ (q .start)))
         (every-same m _ _ (q .end)),
-    every-of (n - 1) _ (λ i h. every-same (2 * m) _ _ (q .joint i h)),
+    every-of (n - 1) _ (λ i h. every-same _ _ _ (q .joint i h)),
   )
 
   pub yes-iff : T (checkMaster s .good) ↔ ((masterNumber s ≡ 0) × Equations s)

@@ -19,7 +19,7 @@ use Rattle.rules.specs.Questions.{Question, ask, firstNo}
 use Rattle.rules.specs.Fused.{fused}
 use Rattle.rules.specs.Build.{validOrder, validAxes, tableLength, invDs, validRange}
 
--- What a query is given, the four buffers aside.
+-- What a query is given, the four buffers aside. The level is document 01's word for how far the derivatives are asked for.
 pub record QueryInput : Type 0 where
   pub path : PathRecord
   pub coefficients : List Float
