@@ -1,4 +1,4 @@
--- The table of a build fills its buffer exactly: `length-table`. On the way, that whatever is solved has m numbers. Assumes nothing.
+-- The table of a build fills its buffer exactly: `length-table`. So a build keeps the length of the buffer, whatever it is given: `keeps-length`. Assumes nothing.
 use mathlib.Core.Path.{_≡_, refl, sym, ap₂, _∙_}
 use mathlib.Core.Logic.{_⊎_, inl, inr}
 use mathlib.Core.Bool.{Bool, true, false, cond, _||_}
@@ -6,40 +6,22 @@ use mathlib.Core.List.{List}
 use Prim.Native.Nat.{ℕ, zero, suc, _+_, _*_, _-_, _≤_}
 use native.Mathlib.Nat.{mul-assoc}
 use native.Mathlib.Omega.{arith}
-use lib.Dec.{T, ltb, eqb, eqb→eq}
+use lib.Dec.{T, ltb, eqb, eqb→eq, leb→le}
 use lib.ListN.{length, length-append}
 use lib.Ieee.{Float}
 use Rattle.rules.specs.declared.BoundaryState.{BoundaryState}
 use Rattle.rules.specs.Tables.{mOf}
-use Rattle.rules.specs.Solve.{Factored, minus, forward, backward, solve}
-use Rattle.rules.specs.Build.{BuildInput, validOrder, tableLength, segmentCoefficients, solvedSide, innerNumbers, nodeNumbers, axisCoefficients, axisState, table}
+use Rattle.rules.specs.Build.{BuildInput, validOrder, tableLength, buildQuestions, buildNumber, segmentCoefficients, solvedSide, innerNumbers}
+use Rattle.rules.specs.Build.{nodeNumbers, axisCoefficients, axisState, table, bufferAfter}
 use Rattle.rules.proofs.Lists.{length-listed, length-joined}
-
--- ---- m numbers
-
-length-minus : (m : ℕ) (v w : List Float) → length (minus m v w) ≡ m
-unfolding minus
-length-minus m v w = length-listed m _
-
-length-forward : (m : ℕ) (f : Factored) (b : List Float) (k : ℕ) → length (forward m f b k) ≡ m
-unfolding forward
-length-forward m f b zero = length-listed m _
-length-forward m f b (suc k) = length-listed m _
-
-length-backward : (m : ℕ) (f : Factored) (b : List Float) (d : ℕ) → length (backward m f b d) ≡ m
-unfolding backward
-length-backward m f b zero = length-forward m f b m
-length-backward m f b (suc d) = length-listed m _
-
-pub length-solve : (m : ℕ) (f : Factored) (b : List Float) → length (solve m f b) ≡ m
-unfolding solve
-length-solve m f b = length-backward m f b m
+use Rattle.rules.proofs.Questions.{said-yes}
+use Rattle.rules.proofs.Solve.{length-minus, length-solve}
 
 length-cond : {A : Type 0} (t : Bool) (x y : List A) (n : ℕ) → length x ≡ n → length y ≡ n → length (cond t x y) ≡ n
 length-cond true x y n p q = p
 length-cond false x y n p q = q
 
-length-segment : (m : ℕ) (y d : Float) (left right : List Float) → length left ≡ m → length (segmentCoefficients m y d left right) ≡ 2 * m + 2
+pub length-segment : (m : ℕ) (y d : Float) (left right : List Float) → length left ≡ m → length (segmentCoefficients m y d left right) ≡ 2 * m + 2
 unfolding segmentCoefficients
 length-segment m y d left right h = simp (length-append, length-listed, h) (omega arith)
 
@@ -68,7 +50,7 @@ module _ (m n : ℕ) (w start end : List Float) where
 
 -- ---- all axes
 
-length-state : (b : BuildInput) (state : BoundaryState) (numbers : List Float) (axis : ℕ) → length (axisState b state numbers axis) ≡ mOf (b .config .order)
+pub length-state : (b : BuildInput) (state : BoundaryState) (numbers : List Float) (axis : ℕ) → length (axisState b state numbers axis) ≡ mOf (b .config .order)
 unfolding axisState
 length-state b state numbers axis = length-listed _ _
 
@@ -77,7 +59,7 @@ either true b t = inl tt
 either false b t = inr t
 
 -- a segment's 2m + 2 coefficients are order + 1
-coefficient-count : (order : ℕ) → T (validOrder order) → 2 * mOf order + 2 ≡ order + 1
+pub coefficient-count : (order : ℕ) → T (validOrder order) → 2 * mOf order + 2 ≡ order + 1
 unfolding validOrder
 coefficient-count order t = go (either (eqb order 3 || eqb order 5) (eqb order 7) t)
   where
@@ -100,3 +82,27 @@ length-table b t h =
     (λ axis l. length-axis _ _ _ _ _ (length-state b _ _ axis) (length-state b _ _ axis))
     ∙ ap₂ (λ (segments cells : ℕ). b .axes * (segments * cells)) (omega arith) (coefficient-count _ t)
     ∙ sym (mul-assoc (b .axes) (b .points - 1) (b .config .order + 1))
+
+-- ---- the buffer
+
+-- the questions that the length rests on, where all are answered yes
+pub accepted-length : (b : BuildInput) (cells : ℕ) → buildNumber b cells ≡ 0 → length (table b) ≡ cells
+unfolding buildNumber buildQuestions
+accepted-length b cells e =
+    let q1 = said-yes _ 302 _ tt e in
+    let q2 = said-yes _ 304 _ tt (q1 .1) in
+    let q3 = said-yes _ 2 _ tt (q2 .1) in
+    let q4 = said-yes _ 300 _ tt (q3 .1) in
+    let q5 = said-yes _ 3 _ tt (q4 .1) in
+    let q6 = said-yes _ 303 _ tt (q5 .1) in
+    let q6′ = said-yes _ 303 _ tt (q6 .1) in
+    let q7 = said-yes _ 2 _ tt (q6′ .1) in
+    length-table b (q1 .0) (leb→le 2 (b .points) (q2 .0)) ∙ sym (eqb→eq cells _ (q7 .0))
+
+pub keeps-length : (b : BuildInput) (before : List Float) → length (bufferAfter b before) ≡ length before
+unfolding bufferAfter
+keeps-length b before = go (eqb (buildNumber b (length before)) 0) (eqb→eq (buildNumber b (length before)) 0)
+  where
+    go : (t : Bool) → (T t → buildNumber b (length before) ≡ 0) → length (cond t (table b) before) ≡ length before
+    go true e = accepted-length b (length before) (e tt)
+    go false e = refl

@@ -1,4 +1,7 @@
 pub mod Lists
+pub mod Questions
+pub mod Solve
 pub mod Build
+pub mod Query
 pub mod Master
 pub mod Pieces

@@ -1,17 +1,17 @@
--- Laws of the lists and tests that the definitions are made of: how long a list is, what stands at a place of it, and what a passed test says.
+-- Laws of the lists and tests that the definitions are made of: how long a list is, where a part of it stands, and what a passed test says.
 -- Assumes nothing.
 use mathlib.Core.Path.{_≡_, refl, sym, ap, _∙_, subst}
-use mathlib.Core.Bool.{Bool, true, false, _&&_}
-use mathlib.Core.List.{List, [], _∷_, _++_}
+use mathlib.Core.Bool.{Bool}
+use mathlib.Core.List.{List, _++_}
 use mathlib.Core.Logic.{_⊎_, inl, inr}
-use Prim.Native.Nat.{ℕ, zero, suc, _+_, _*_, _<_}
-use native.Mathlib.Nat.{eq-or-lt-of-le, le-of-suc-le-suc, not-suc-le-zero, zero-mul, suc-mul}
+use Prim.Native.Nat.{ℕ, zero, suc, _+_, _*_, _<_, _≤_}
+use native.Mathlib.Nat.{eq-or-lt-of-le, le-of-suc-le-suc, not-suc-le-zero, le-of-eq, add-zero, add-mul, zero-mul, suc-mul, mul-assoc, mul-le-mul-right}
 use native.Mathlib.Omega.{arith}
 use lib.Dec.{T}
-use lib.ListN.{length, getD, length-append, List·getD-append}
-use lib.Seq.{getD-at}
+use lib.ListN.{length, take, drop, length-append, length-drop}
+use lib.Seq.{take-all, take-append-le, drop-append-le, drop-append-add}
 use lib.Ieee.Fits.{and-i, and-l, and-r}
-use Rattle.rules.specs.Lists.{joined, listed, all, every}
+use Rattle.rules.specs.Lists.{joined, listed, every}
 
 -- a number below n + 1 is below n, or is n
 below-suc : {i n : ℕ} → i < suc n → (i ≡ n) ⊎ (i < n)
@@ -23,32 +23,41 @@ module _ {A : Type 0} where
   length-listed zero f = refl
   length-listed (suc n) f = simp (length-append, length-listed n f) (omega arith)
 
-  pub listed-at : (n : ℕ) (f : ℕ → A) (d : A) (i : ℕ) → i < n → getD (listed n f) i d ≡ f i
-  unfolding listed
-  listed-at zero f d i h = absurd (not-suc-le-zero h)
-  listed-at (suc n) f d i h = go (below-suc h) (listed-at n f d i)
-    where
-      go : (i ≡ n) ⊎ (i < n) → (i < n → getD (listed n f) i d ≡ f i) → getD (listed n f ++ (f n ∷ [])) i d ≡ f i
-      go (inl e) r = getD-at (listed n f) (f n) [] d i (length-listed n f ∙ sym e) ∙ ap f (sym e)
-      go (inr l) r = List·getD-append (listed n f) (f n ∷ []) d i (rw (length-listed n f) l) ∙ r l
-
   pub length-joined : (n k : ℕ) (f : ℕ → List A) → ((i : ℕ) → i < n → length (f i) ≡ k) → length (joined n f) ≡ n * k
   unfolding joined
   length-joined zero k f h = sym (zero-mul k)
   length-joined (suc n) k f h =
       simp (length-append, length-joined n k f (λ i l. h i (omega arith)), h n (omega arith), suc-mul)
 
-  -- `all` passes exactly where its test passes at each place
-  pub all-at : (f : A → Bool) (xs : List A) (d : A) → T (all f xs) → (i : ℕ) → i < length xs → T (f (getD xs i d))
-  unfolding all
-  all-at f [] d t i h = absurd (not-suc-le-zero h)
-  all-at f (x ∷ xs) d t zero h = and-l (f x) (all f xs) t
-  all-at f (x ∷ xs) d t (suc i) h = all-at f xs d (and-r (f x) (all f xs) t) i (le-of-suc-le-suc h)
+  -- of lists that are k long each, a part inside the i-th is a part of all
+  pub joined-part : (n k : ℕ) (f : ℕ → List A) → ((i : ℕ) → i < n → length (f i) ≡ k)
+      → (i at count : ℕ) → i < n → at + count ≤ k → take count (drop (i * k + at) (joined n f)) ≡ take count (drop at (f i))
+  unfolding joined
+  joined-part zero k f e i at count h l = absurd (not-suc-le-zero h)
+  joined-part (suc n) k f e i at count h l = go (below-suc h) (joined-part n k f (λ i′ h′. e i′ (omega arith)) i at count)
+    where
+      before : length (joined n f) ≡ n * k
+      before = length-joined n k f (λ i′ h′. e i′ (omega arith))
 
-  pub all-of : (f : A → Bool) (xs : List A) (d : A) → ((i : ℕ) → i < length xs → T (f (getD xs i d))) → T (all f xs)
-  unfolding all
-  all-of f [] d h = tt
-  all-of f (x ∷ xs) d h = and-i (f x) (all f xs) (h 0 (omega arith)) (all-of f xs d (λ i l. h (suc i) (omega arith)))
+      go : (i ≡ n) ⊎ (i < n) → (i < n → at + count ≤ k → take count (drop (i * k + at) (joined n f)) ≡ take count (drop at (f i)))
+          → take count (drop (i * k + at) (joined n f ++ f n)) ≡ take count (drop at (f i))
+      go (inl q) r = rw (q, ← before) (ap (take count) (drop-append-add (joined n f) (f n) at))
+      go (inr h′) r =
+          let room : i * k + k ≤ n * k = rw suc-mul at (mul-le-mul-right k h′) in
+          ap (take count) (drop-append-le (i * k + at) (joined n f) (f n) (rw before (omega arith)))
+          ∙ take-append-le count (drop (i * k + at) (joined n f)) (f n) (simp (length-drop, before) (omega arith))
+          ∙ r h′ l
+
+  -- a list of lists of lists that are k long each: the j-th list of the i-th stands at (i * n + j) * k
+  pub joined-twice : (m n k : ℕ) (f : ℕ → ℕ → List A) → ((i j : ℕ) → length (f i j) ≡ k)
+      → (i j : ℕ) → i < m → j < n → take k (drop ((i * n + j) * k) (joined m (λ i′. joined n (f i′)))) ≡ f i j
+  joined-twice m n k f e i j h l =
+      let room : j * k + k ≤ n * k = rw suc-mul at (mul-le-mul-right k l) in
+      ap (λ (at : ℕ). take k (drop at (joined m (λ i′. joined n (f i′))))) (add-mul (i * n) j k ∙ ap (λ (at : ℕ). at + j * k) (mul-assoc i n k))
+      ∙ joined-part m (n * k) _ (λ i′ h′. length-joined n k (f i′) (λ j′ l′. e i′ j′)) i (j * k) k h room
+      ∙ ap (λ (at : ℕ). take k (drop at (joined n (f i)))) (sym (add-zero (j * k)))
+      ∙ joined-part n k (f i) (λ j′ l′. e i j′) j 0 k l (omega arith)
+      ∙ take-all k (f i j) (le-of-eq (e i j))
 
 -- `every` passes exactly where its test passes at each place below n
 pub every-at : (n : ℕ) (f : ℕ → Bool) → T (every n f) → (i : ℕ) → i < n → T (f i)

@@ -1,6 +1,6 @@
 -- Lists, and tests over the places 0 to n − 1. Assumes nothing.
 use Prim.Native.Nat.{ℕ, zero, suc}
-use mathlib.Core.Bool.{Bool, true, false, _&&_}
+use mathlib.Core.Bool.{Bool, true, _&&_}
 use mathlib.Core.List.{List, [], _∷_, _++_}
 
 module _ {A : Type 0} where

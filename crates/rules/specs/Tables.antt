@@ -1,10 +1,10 @@
 -- The tables of document 01, for m = 1, 2, 3, where m = (order − 1)/2. Each is a list, row by row, of whole numbers; the rules use the same numbers as floats.
 -- A, B and C have m rows and m columns, R m rows and 2, H m + 1 rows and 1 + 2m. Assumes nothing.
-use Prim.Native.Nat.{ℕ, zero, suc, _+_, _*_, _-_, _/_}
+use Prim.Native.Nat.{ℕ, zero, suc, _-_, _/_}
 use mathlib.Core.List.{List, [], _∷_}
 use lib.IntN.{ℤ, pos, negℤ}
 use lib.Ieee.{Float}
-use Rattle.rules.specs.Floats.{_!_, ofInts}
+use Rattle.rules.specs.Floats.{ofInts}
 
 abbrev pub mOf : ℕ → ℕ
 mOf order = (order - 1) / 2
