@@ -82,7 +82,7 @@ unfoldable pub scaled : PathRecord → PathParam → SegmentUnits
 scaled p s = record { 0 = (s .0 ⊖ p .«s_min» .0) ⊗ p .«inv_ds» }
 
 -- "whole part and exact rest" of a number above 0, m × 2^k or m / 2^(k + 1) with m odd. The first has no rest; the second leaves a remainder, odd like m,
--- of as many parts. So the rest is the exact difference, and nothing rounds it. (NaN and infinities have neither; no scaled s that is in range is one.)
+-- over 2^(k + 1). So the rest is the exact difference, and nothing rounds it. (NaN has whole part 0 and rest NaN, as in the source. `located` asks for no infinity.)
 unfoldable pub wholePart : Float → ℕ
 wholePart nan = 0
 wholePart (inf s) = 0
