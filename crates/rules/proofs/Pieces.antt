@@ -1,4 +1,4 @@
--- Every starred piece of document 01 holds of the definitions, and so does each of the second list: antt computes each test.
+-- Every starred piece of document 01 holds of the definitions, and so does each of the second list. antt computes each test.
 -- Assumes nothing.
 use lib.Dec.{T}
 use lib.Ieee.{add, sub, mul, div, neg, lt, eq, le, ofInt, isNan, toBits}
@@ -17,10 +17,10 @@ use Rattle.rules.specs.Query.{derivativeFactor, term, fusedSteps, fusedD
 use Rattle.rules.specs.Query.{derivative, derivativeAfter}
 use Rattle.rules.specs.Master.{within, masterQuestions, masterNumber, binomial, sumℤ, atEnd, same, meetsLeft, meetsRight, meetsStart, meetsEnd, meetsJoints}
 use Rattle.rules.specs.Master.{endpointEquations, jointEquations, checkMaster}
-use Rattle.rules.specs.Pieces.{holds, exactly, alike, allAlike, tableOf, queryOf, oneEach, curve, atRest, starting, setOfD, greatest, starred, pitfalls}
+use Rattle.rules.specs.Pieces.{holds, exactly, alike, allAlike, tableOf, queryOf, oneEach, curve, atRest, starting, setOfD, greatest, starred, further}
 
-both : T (all holds starred) × T (all holds pitfalls)
-unfolding holds exactly alike allAlike tableOf queryOf oneEach curve atRest starting setOfD greatest starred pitfalls
+both : T (all holds starred) × T (all holds further)
+unfolding holds exactly alike allAlike tableOf queryOf oneEach curve atRest starting setOfD greatest starred further
     add sub mul div neg lt eq le ofInt isNan toBits sumOf joined listed all every firstNo exactProduct fused m1 m2 m3 forOrder
     matrix times minus pivotRow exchange exchanged eliminated factorSteps factor nonzeroPivots
     forward backward solve column solveMatrix nodeMatrix nodeFactors solvedC
@@ -36,5 +36,5 @@ both = (tt, tt)
 pub starred-hold : T (all holds starred)
 starred-hold = both .0
 
-pub pitfalls-hold : T (all holds pitfalls)
-pitfalls-hold = both .1
+pub further-hold : T (all holds further)
+further-hold = both .1

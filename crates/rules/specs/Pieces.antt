@@ -1,5 +1,6 @@
 -- The trial pieces of document 01 that are starred, a to l, as one list, and what it is for a piece to hold of the definitions. `starred-hold` of
--- proofs/Pieces.antt is the single claim about all of them. A second list has what document 01 warns of under "Slopes that look true" and no starred piece tells.
+-- proofs/Pieces.antt is the single claim about all of them. A second list, `further`, has the pieces m, n and o, and what document 01 warns of under
+-- "Slopes that look true" and no piece tells.
 -- Assumes nothing.
 use Prim.Native.Nat.{ℕ, _+_, _-_, _^_}
 use mathlib.Core.Bool.{Bool, true, false, not, _&&_, _||_, Bool·beq}
@@ -33,6 +34,8 @@ pub data Piece : Type 0 where
   stepped : Float → Float → Float → Float → Piece
   -- a lookup in what a build gives: s, the segment and tau
   found : BuildInput → Float → ℕ → Float → Piece
+  -- a refusal's number, and the one that it should be
+  refused : ℕ → ℕ → Piece
   -- a set that meets the endpoint equations and the joint equations up to r = m alone, and that the check says no to
   loose : MasterSet → Piece
 
@@ -71,6 +74,7 @@ holds (stepped a b c r) = exactly (fused binary64 a b c) r
 holds (found b s segment tau) =
     let says = lookupSays (lookup (queryOf b s .path) (record { 0 = s })) in
     eqb (says .number) 0 && eqb (says .segment) segment && exactly (says .value) tau
+holds (refused number expected) = eqb number expected
 holds (loose s) =
     let m = mOf (s .order) in
     endpointEquations s && meetsJoints m (length (s .waypoints) - 1) (s .table) m
@@ -112,9 +116,9 @@ atRest order hi waypoints = curve order hi waypoints None [] Error
 unfoldable pub starting : ℕ → List ℕ → List ℕ → BuildInput
 starting order waypoints start = curve order 1 waypoints (Given 1 (length start) false) start Error
 
--- a set with the points and states of piece d
-unfoldable pub setOfD : List ℤ → MasterSet
-setOfD table = record { order = 3; waypoints = pos 0 ∷ pos 4 ∷ pos 8 ∷ []; start = pos 0 ∷ []; end = pos 0 ∷ []; table = table }
+-- a set with the points and the end state of piece d
+unfoldable pub setOfD : ℤ → List ℤ → MasterSet
+setOfD start table = record { order = 3; waypoints = pos 0 ∷ pos 4 ∷ pos 8 ∷ []; start = start ∷ []; end = pos 0 ∷ []; table = table }
 
 -- "greatest", and the same below 0
 unfoldable pub greatest : Bool → Float
@@ -133,8 +137,8 @@ starred =
     -- d
     built (atRest 3 1 (0 ∷ 4 ∷ 8 ∷ [])) (ofInts (pos 0 ∷ pos 0 ∷ pos 6 ∷ neg 2 ∷ pos 4 ∷ pos 6 ∷ pos 0 ∷ neg 2 ∷ [])) ∷
     -- e
-    checked (setOfD (pos 0 ∷ pos 0 ∷ pos 6 ∷ neg 2 ∷ pos 4 ∷ pos 6 ∷ pos 0 ∷ neg 2 ∷ [])) true ∷
-    checked (setOfD (pos 0 ∷ pos 0 ∷ pos 6 ∷ neg 2 ∷ pos 4 ∷ pos 6 ∷ pos 0 ∷ neg 1 ∷ [])) false ∷
+    checked (setOfD (pos 0) (pos 0 ∷ pos 0 ∷ pos 6 ∷ neg 2 ∷ pos 4 ∷ pos 6 ∷ pos 0 ∷ neg 2 ∷ [])) true ∷
+    checked (setOfD (pos 0) (pos 0 ∷ pos 0 ∷ pos 6 ∷ neg 2 ∷ pos 4 ∷ pos 6 ∷ pos 0 ∷ neg 1 ∷ [])) false ∷
     -- f
     built (atRest 5 1 (0 ∷ 3 ∷ 0 ∷ []))
     (ofInts (pos 0 ∷ pos 0 ∷ pos 0 ∷ pos 20 ∷ neg 25 ∷ pos 8 ∷ pos 3 ∷ pos 0 ∷ neg 10 ∷ pos 0 ∷ pos 15 ∷ neg 8 ∷ [])) ∷
@@ -152,14 +156,24 @@ starred =
     -- l: greatest, 2, −greatest: greatest
     stepped (greatest false) (fin false 1 (pos 1)) (greatest true) (greatest false) ∷ []
 
--- ---- what no starred piece can tell
+-- ---- the pieces that are not starred, and what no piece tells
 
-unfoldable pub pitfalls : List Piece
-pitfalls =
-    -- "Giving tau 1 whenever s reaches s_max": piece m, at s 49 and, in Clamp, at s 60: tau 1 − 2^−53
+unfoldable pub further : List Piece
+further =
+    -- m: range 0 to 49, points 0 1, s 49: tau 1 − 2^−53, not 1; Clamp with s 60 the same
     found (atRest 3 49 (0 ∷ 1 ∷ [])) (ofCount 49) 0 ((2 ^ 53 - 1) ÷2^ 53) ∷
     found (curve 3 49 (0 ∷ 1 ∷ []) None [] Clamp) (ofCount 60) 0 ((2 ^ 53 - 1) ÷2^ 53) ∷
+    -- n: range 0 to 2, points 0 1, order 3, start 3 per unit of s: coefficient 1 is 6
+    built (curve 3 2 (0 ∷ 1 ∷ []) (Given 1 1 true) (3 ∷ []) Error) (ofInts (pos 0 ∷ pos 6 ∷ neg 9 ∷ pos 4 ∷ [])) ∷
+    -- o, all but the 257 points that are accepted: one more gives 2; 1 point 304; order 4 with 1 point 302; s NaN 305 in both modes;
+    -- state number 2^40 + 1 in a check 4
+    refused (buildNumber (atRest 3 1 (replicate 258 0)) (tableLength 1 257 3)) 2 ∷
+    refused (buildNumber (atRest 3 1 (0 ∷ [])) 0) 304 ∷
+    refused (buildNumber (atRest 4 1 (0 ∷ [])) 0) 302 ∷
+    refused (queryNumber (queryOf (atRest 3 1 (0 ∷ 1 ∷ [])) nan) oneEach) 305 ∷
+    refused (queryNumber (queryOf (curve 3 1 (0 ∷ 1 ∷ []) None [] Clamp) nan) oneEach) 305 ∷
+    refused (checkMaster (setOfD (pos (2 ^ 40 + 1)) (pos 0 ∷ pos 0 ∷ pos 6 ∷ neg 2 ∷ pos 4 ∷ pos 6 ∷ pos 0 ∷ neg 2 ∷ [])) .number) 4 ∷
     -- "Halving the second state number": g with the start 0 1. In g itself that number is 0, and so is half of it.
     built (starting 5 (0 ∷ 0 ∷ []) (0 ∷ 1 ∷ [])) (ofInts (pos 0 ∷ pos 0 ∷ pos 1 ∷ neg 3 ∷ pos 3 ∷ neg 1 ∷ [])) ∷
     -- "Joints checked only to r = m: smooth to the eye, not unique": a second table for the points and states of d
-    loose (setOfD (pos 0 ∷ pos 0 ∷ pos 12 ∷ neg 8 ∷ pos 4 ∷ pos 0 ∷ pos 12 ∷ neg 8 ∷ [])) ∷ []
+    loose (setOfD (pos 0) (pos 0 ∷ pos 0 ∷ pos 12 ∷ neg 8 ∷ pos 4 ∷ pos 0 ∷ pos 12 ∷ neg 8 ∷ [])) ∷ []
