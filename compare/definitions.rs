@@ -2,7 +2,8 @@
 //! Rust text of copp computes each expected number. Refusals and master checks, which it does not
 //! have: document 01's questions as plain tests here, and tables that are good, or damaged, by how
 //! they are made. This program prints a module for antt with one claim a trial, that the
-//! definitions give what is expected. `compare/definitions` runs it.
+//! definitions give what is expected. `compare/definitions` runs it. The first trials of a kind go
+//! through every damage, and every triple of special floats, in turn; later ones are random.
 //!
 //! Arguments: the seed, the number of trials of each kind, and proofs/Pieces.antt, whose `use`
 //! lines and whose list of definitions to compute with the module takes over.
@@ -71,20 +72,25 @@ impl Random {
     }
     /// A special float, any bits, or a coordinate.
     fn float(&mut self) -> f64 {
-        let small = [f64::MIN_POSITIVE, 5e-324, -5e-324];
-        let near_one = [1.0, -1.0, 1.5, 1.0 + f64::EPSILON, 1.0 - f64::EPSILON / 2.0];
-        match self.below(6) {
-            0 => self.pick(&small),
-            1 => self.pick(&near_one),
-            2 => self.pick(&[0.0, -0.0, f64::MAX, f64::MIN]),
-            3 => self.pick(&NOT_FINITE),
-            4 => f64::from_bits(self.next()),
+        match self.below(3) {
+            0 => self.pick(&[f64::MIN_POSITIVE, -5e-324, 1.5, 1.0 + f64::EPSILON, 1.0 - f64::EPSILON / 2.0]),
+            1 => f64::from_bits(self.next()),
             _ => self.coordinate(),
         }
     }
 }
 
 const NOT_FINITE: [f64; 3] = [f64::NAN, f64::INFINITY, f64::NEG_INFINITY];
+const SPECIAL: [f64; 9] = [0.0, -0.0, 1.0, -1.0, 5e-324, f64::MAX, f64::NAN, f64::INFINITY, f64::NEG_INFINITY];
+
+/// Document 01's "the first no gives its number", and 0 where there is none.
+fn first_no(questions: &[(bool, u32)]) -> u32 {
+    questions.iter().find(|question| !question.0).map_or(0, |question| question.1)
+}
+
+fn is_order(order: usize) -> bool {
+    [3, 5, 7].contains(&order)
+}
 
 // ---- antt
 
@@ -195,48 +201,50 @@ impl Build {
             cells: axes * (points - 1) * (order + 1),
         }
     }
-    fn damage(&mut self, random: &mut Random) {
-        match random.below(11) {
-            0 => self.order = random.pick(&[0, 1, 2, 4, 6, 8, 9]),
-            1 => self.points = random.pick(&[0, 1]),
-            2 => self.points = random.pick(&[258, 300]),
-            3 => self.axes = random.pick(&[0, 9]),
-            4 => drop(self.waypoints.pop()),
-            5 => self.start = State { given: Some((self.axes + 1, self.order / 2, false)), numbers: vec![] },
-            6 => self.end = State { given: Some((self.axes, self.order / 2, true)), numbers: vec![1.0] },
-            7 => self.cells += 1,
-            8 => {
-                let bad = [(1.0, 1.0), (2.0, 1.0), (f64::NAN, 1.0), (0.0, f64::INFINITY), (f64::MIN, f64::MAX), (0.0, 5e-324)];
-                (self.s_min, self.s_max) = random.pick(&bad);
+    const DAMAGES: usize = 35;
+    fn damage(&mut self, which: usize) {
+        let (axes, m) = (self.axes, self.order / 2);
+        let given = |rows: usize, columns: usize, numbers: Vec<f64>| State { given: Some((rows, columns, false)), numbers };
+        match which {
+            0..=6 => self.order = [0, 1, 2, 4, 6, 8, 9][which],
+            7..=10 => self.points = [0, 1, 258, 300][which - 7],
+            11 | 12 => self.axes = [0, 9][which - 11],
+            13 => drop(self.waypoints.pop()),
+            14 => self.waypoints.push(0.0),
+            15 => self.start = given(axes + 1, m, vec![0.0; (axes + 1) * m]),
+            16 => self.start = given(axes, m + 1, vec![0.0; axes * (m + 1)]),
+            17 => self.start = given(axes, m, vec![0.0; axes * m + 1]),
+            18 => self.end = given(axes + 1, m, vec![0.0; axes * m]),
+            19 => self.end = given(axes, m + 1, vec![0.0; axes * m]),
+            20 => self.end = given(axes, m, vec![]),
+            21 => self.cells += 1,
+            22 => self.cells -= 1,
+            23..=29 => {
+                let (nan, inf) = (f64::NAN, f64::INFINITY);
+                let bad = [(1.0, 1.0), (2.0, 1.0), (nan, 1.0), (0.0, inf), (-inf, 0.0), (f64::MIN, f64::MAX), (0.0, 5e-324)];
+                (self.s_min, self.s_max) = bad[which - 23];
             }
-            9 => self.waypoints[0] = random.pick(&NOT_FINITE),
-            _ => self.end.numbers.iter_mut().for_each(|x| *x = f64::INFINITY),
+            30..=32 => *self.waypoints.last_mut().unwrap() = NOT_FINITE[which - 30],
+            33 => self.start = given(axes, m, vec![f64::NAN; axes * m]),
+            _ => self.end = given(axes, m, vec![f64::INFINITY; axes * m]),
         }
     }
     /// The questions of document 01 but the tenth, in its order.
     fn number(&self) -> u32 {
-        let m = self.order / 2;
-        if ![3, 5, 7].contains(&self.order) {
-            302
-        } else if self.points < 2 {
-            304
-        } else if self.points > 257 {
-            2
-        } else if !(1..=8).contains(&self.axes) {
-            300
-        } else if self.waypoints.len() != self.axes * self.points {
-            3
-        } else if !self.start.fits(self.axes, m) || !self.end.fits(self.axes, m) {
-            303
-        } else if self.cells != self.axes * (self.points - 1) * (self.order + 1) {
-            2
-        } else if range(self.points - 1, self.s_min, self.s_max).is_none() {
-            301
-        } else if !self.waypoints.iter().all(|x| x.is_finite()) || !self.start.is_finite() || !self.end.is_finite() {
-            4
-        } else {
-            0
-        }
+        let (m, segments) = (self.order / 2, self.points.saturating_sub(1));
+        let finite = |xs: &[f64]| xs.iter().all(|x| x.is_finite());
+        first_no(&[
+            (is_order(self.order), 302),
+            (self.points >= 2, 304),
+            (self.points <= 257, 2),
+            ((1..=8).contains(&self.axes), 300),
+            (self.waypoints.len() == self.axes * self.points, 3),
+            (self.start.fits(self.axes, m), 303),
+            (self.end.fits(self.axes, m), 303),
+            (self.cells == self.axes * segments * (self.order + 1), 2),
+            (range(segments, self.s_min, self.s_max).is_some(), 301),
+            (finite(&self.waypoints) && self.start.is_finite() && self.end.is_finite(), 4),
+        ])
     }
     fn path(&self) -> SplinePath {
         let inv_ds = range(self.points - 1, self.s_min, self.s_max).unwrap();
@@ -270,24 +278,25 @@ impl Build {
     }
 }
 
-fn build(random: &mut Random) -> String {
+fn build(random: &mut Random, _: usize) -> String {
     let axes = 1 + random.below(3) as usize;
     let b = Build::random(random, axes);
     format!("holds (built {} {})", b.text(), list(coefficients(&b.path()), float))
 }
 
-fn refused_build(random: &mut Random) -> String {
+fn refused_build(random: &mut Random, trial: usize) -> String {
     let axes = 1 + random.below(3) as usize;
     let mut b = Build::random(random, axes);
-    for _ in 0..1 + random.below(3) {
-        b.damage(random);
+    b.damage(trial % Build::DAMAGES);
+    if trial >= Build::DAMAGES {
+        b.damage(random.below(Build::DAMAGES as u64) as usize);
     }
     format!("eqb (buildNumber {} {}) {}", b.text(), b.cells, b.number())
 }
 
 // ---- queries
 
-fn query(random: &mut Random) -> String {
+fn query(random: &mut Random, _: usize) -> String {
     let b = Build::random(random, 1);
     let (lo, hi) = (b.s_min, b.s_max);
     let within = lo + random.unit() * (hi - lo);
@@ -315,45 +324,42 @@ struct Query {
 }
 
 impl Query {
-    fn damage(&mut self, random: &mut Random) {
-        match random.below(11) {
-            0 => self.order = random.pick(&[0, 1, 4, 9]),
-            1 => self.segments = 0,
-            2 => self.segments = 257,
-            3 => self.axes = random.pick(&[0, 9]),
-            4 => self.s_max = random.pick(&[self.s_min, f64::NAN, f64::INFINITY]),
-            5 => self.inv_ds = f64::from_bits(self.inv_ds.to_bits() + 1),
-            6 => self.cells += 1,
-            7 => self.level = random.pick(&[1, 4, 255]),
-            8 => self.lengths[random.below(4) as usize] += 1,
-            9 => self.s = f64::NAN,
-            _ => self.s = random.pick(&[self.s_min - 1.0, self.s_max + 1.0, f64::INFINITY]),
+    const DAMAGES: usize = 30;
+    fn damage(&mut self, which: usize) {
+        match which {
+            0..=3 => self.order = [0, 1, 4, 9][which],
+            4 | 5 => self.segments = [0, 257][which - 4],
+            6 | 7 => self.axes = [0, 9][which - 6],
+            8..=10 => self.s_max = [self.s_min, f64::NAN, f64::INFINITY][which - 8],
+            11 => (self.s_min, self.s_max, self.inv_ds) = (f64::MIN, f64::MAX, 0.0),
+            12 => self.inv_ds = self.inv_ds.next_up(),
+            13 => self.inv_ds = self.inv_ds.next_down(),
+            14 => self.cells += 1,
+            15 => self.cells -= 1,
+            16..=18 => self.level = [1, 4, 255][which - 16],
+            19..=22 => self.lengths[which - 19] += 1,
+            23 | 24 => (self.clamp, self.s) = (which == 23, f64::NAN),
+            _ => {
+                let beyond = [self.s_min - 1.0, self.s_max + 1.0, f64::INFINITY];
+                (self.clamp, self.s) = (which > 27, beyond[(which - 25) % 3]);
+            }
         }
     }
     fn number(&self) -> u32 {
         let written = [true, self.level >= 2, self.level >= 2, self.level >= 3];
         let served = |(length, written): (&usize, bool)| !written || *length == self.axes;
-        if ![3, 5, 7].contains(&self.order) {
-            302
-        } else if self.segments < 1 {
-            304
-        } else if self.segments > 256 {
-            2
-        } else if !(1..=8).contains(&self.axes) {
-            300
-        } else if range(self.segments, self.s_min, self.s_max) != Some(self.inv_ds) {
-            301
-        } else if self.cells != self.axes * self.segments * (self.order + 1) {
-            303
-        } else if ![0, 2, 3].contains(&self.level) {
-            308
-        } else if !self.lengths.iter().zip(written).all(served) {
-            2
-        } else if self.s.is_nan() || !self.clamp && !(self.s_min <= self.s && self.s <= self.s_max) {
-            305
-        } else {
-            0
-        }
+        let inside = self.s_min <= self.s && self.s <= self.s_max;
+        first_no(&[
+            (is_order(self.order), 302),
+            (self.segments >= 1, 304),
+            (self.segments <= 256, 2),
+            ((1..=8).contains(&self.axes), 300),
+            (range(self.segments, self.s_min, self.s_max) == Some(self.inv_ds), 301),
+            (self.cells == self.axes * self.segments * (self.order + 1), 303),
+            ([0, 2, 3].contains(&self.level), 308),
+            (self.lengths.iter().zip(written).all(served), 2),
+            (!self.s.is_nan() && (self.clamp || inside), 305),
+        ])
     }
     fn text(&self) -> String {
         let [q, dq, ddq, dddq] = self.lengths;
@@ -374,7 +380,7 @@ impl Query {
     }
 }
 
-fn refused_query(random: &mut Random) -> String {
+fn refused_query(random: &mut Random, trial: usize) -> String {
     let axes = 1 + random.below(3) as usize;
     let b = Build::random(random, axes);
     let mut q = Query {
@@ -390,18 +396,26 @@ fn refused_query(random: &mut Random) -> String {
         level: random.pick(&[0, 2, 3]),
         lengths: [axes; 4],
     };
-    for _ in 0..1 + random.below(3) {
-        q.damage(random);
+    q.damage(trial % Query::DAMAGES);
+    if trial >= Query::DAMAGES {
+        q.damage(random.below(Query::DAMAGES as u64) as usize);
     }
     format!("eqb (queryNumber {}) {}", q.text(), q.number())
 }
 
 // ---- fused steps
 
-fn fused_step(random: &mut Random) -> String {
+fn step(a: f64, b: f64, c: f64) -> String {
+    format!("stepped ({}) ({}) ({}) ({}) ∷ ", float(a), float(b), float(c), float(a.mul_add(b, c)))
+}
+
+/// Ten steps: two special factors with each special addend, and one of random floats, at times close to cancelling.
+fn fused_steps(random: &mut Random, trial: usize) -> String {
+    let (a, b) = (SPECIAL[trial / 9 % 9], SPECIAL[trial % 9]);
+    let special: String = SPECIAL.iter().map(|&c| step(a, b, c)).collect();
     let (a, b) = (random.float(), random.float());
     let c = if random.one_in(3) { -(a * b) } else { random.float() };
-    format!("holds (stepped ({}) ({}) ({}) ({}))", float(a), float(b), float(c), float(a.mul_add(b, c)))
+    format!("all holds ({special}{}[])", step(a, b, c))
 }
 
 // ---- master checks
@@ -413,11 +427,11 @@ fn at_end(segment: &[i64], r: usize) -> i64 {
 }
 
 /// A good set by how it is made: each segment goes on from the last one's end in all coefficients but
-/// the highest, and points and states are read off. Then it stays good, or one number is changed.
-fn master_check(random: &mut Random) -> String {
+/// the highest, and points and states are read off. It stays good, or one thing in it is changed.
+fn master_check(random: &mut Random, trial: usize) -> String {
     let m = 1 + random.below(3) as usize;
-    let mut whole_number = || random.below(19) as i64 - 9;
-    let mut table = vec![(0..2 * m + 2).map(|_| whole_number()).collect::<Vec<i64>>()];
+    let mut order = 2 * m + 1;
+    let mut table: Vec<Vec<i64>> = vec![(0..2 * m + 2).map(|_| random.below(19) as i64 - 9).collect()];
     for _ in 0..random.below(4) {
         let last = table.last().unwrap();
         let highest = random.below(19) as i64 - 9;
@@ -427,26 +441,35 @@ fn master_check(random: &mut Random) -> String {
     let waypoints: Vec<i64> = table.iter().map(|segment| segment[0]).chain([at_end(last, 0)]).collect();
     let mut lists = [waypoints, table[0][1..=m].to_vec(), (1..=m).map(|r| at_end(last, r)).collect(), table.concat()];
     let limit = 1i64 << 40;
-    let (mut number, mut good) = (0, true);
     let which = random.below(4) as usize;
     let place = random.below(lists[which].len() as u64) as usize;
-    match random.below(6) {
-        0 | 1 => {}
-        2 | 3 => {
-            lists[which][place] += random.pick(&[-1, 1, 7]);
-            good = false;
+    let cell = &mut lists[which][place];
+    let (mut number, mut good) = (0, false);
+    match trial % 16 {
+        0..=3 => good = true,
+        4..=6 => *cell += [-1, 1, 7][trial % 16 - 4],
+        7 | 8 => *cell = [limit, -limit][trial % 16 - 7],
+        9 | 10 => (*cell, number) = ([limit + 1, -limit - 1][trial % 16 - 9], 4),
+        11 => (order, number) = (order + 1, 302),
+        12 => {
+            lists[0].truncate(trial / 16 % 2);
+            number = 304;
         }
-        4 => {
-            lists[which][place] = random.pick(&[limit, -limit]);
-            good = false;
+        13 => {
+            lists[0].resize(258, 0);
+            number = 2;
+        }
+        14 => {
+            lists[1 + trial / 16 % 2].push(0);
+            number = 303;
         }
         _ => {
-            lists[which][place] = random.pick(&[limit + 1, -limit - 1, i64::MAX, i64::MIN]);
-            (number, good) = (4, false);
+            lists[3].pop();
+            number = 2;
         }
     }
     let [waypoints, start, end, table] = lists.map(|l| list(&l, whole));
-    let set = format!("record {{ order = {}; waypoints = {waypoints}; start = {start}; end = {end}; table = {table} }}", 2 * m + 1);
+    let set = format!("record {{ order = {order}; waypoints = {waypoints}; start = {start}; end = {end}; table = {table} }}");
     format!("says ({set}) {number} {good}")
 }
 
@@ -475,10 +498,10 @@ fn main() {
     println!("abbrev f : ℕ → Float\nunfolding ofBits\nf bits = ofBits binary64 bits\n");
     println!("abbrev says : MasterSet → ℕ → Bool → Bool");
     println!("says s number good = eqb (checkMaster s .number) number && Bool·beq (checkMaster s .good) good\n");
-    for kind in [build, query, fused_step, refused_build, refused_query, master_check] {
-        for _ in 0..count {
+    for kind in [build, query, fused_steps, refused_build, refused_query, master_check] {
+        for trial in 0..count {
             let name = format!("trial-{}", random.next());
-            println!("{name} : T ({})\n{unfolding} ofBits\n{name} = tt\n", kind(&mut random));
+            println!("{name} : T ({})\n{unfolding} ofBits\n{name} = tt\n", kind(&mut random, trial));
         }
     }
 }

@@ -14,7 +14,7 @@ use Rattle.rules.specs.Tables.{mOf}
 use Rattle.rules.specs.Build.{BuildInput, validOrder, tableLength, buildQuestions, buildNumber, segmentCoefficients, solvedSide, innerNumbers}
 use Rattle.rules.specs.Build.{nodeNumbers, axisCoefficients, axisState, table, bufferAfter}
 use Rattle.rules.proofs.Lists.{length-listed, length-joined}
-use Rattle.rules.proofs.Questions.{said-yes}
+use Rattle.rules.proofs.Questions.{answerAt, said-yes}
 use Rattle.rules.proofs.Solve.{length-minus, length-solve}
 
 length-cond : {A : Type 0} (t : Bool) (x y : List A) (n : ℕ) → length x ≡ n → length y ≡ n → length (cond t x y) ≡ n
@@ -85,19 +85,12 @@ length-table b t h =
 
 -- ---- the buffer
 
--- the questions that the length rests on, where all are answered yes
-pub accepted-length : (b : BuildInput) (cells : ℕ) → buildNumber b cells ≡ 0 → length (table b) ≡ cells
+-- by questions 1, 2 and 7, the last of which stands behind two questions about states
+accepted-length : (b : BuildInput) (cells : ℕ) → buildNumber b cells ≡ 0 → length (table b) ≡ cells
 unfolding buildNumber buildQuestions
 accepted-length b cells e =
-    let q1 = said-yes _ 302 _ tt e in
-    let q2 = said-yes _ 304 _ tt (q1 .1) in
-    let q3 = said-yes _ 2 _ tt (q2 .1) in
-    let q4 = said-yes _ 300 _ tt (q3 .1) in
-    let q5 = said-yes _ 3 _ tt (q4 .1) in
-    let q6 = said-yes _ 303 _ tt (q5 .1) in
-    let q6′ = said-yes _ 303 _ tt (q6 .1) in
-    let q7 = said-yes _ 2 _ tt (q6′ .1) in
-    length-table b (q1 .0) (leb→le 2 (b .points) (q2 .0)) ∙ sym (eqb→eq cells _ (q7 .0))
+    let yes-to : (k : ℕ) → T (answerAt (buildQuestions b cells) k) = said-yes (buildQuestions b cells) tt e in
+    length-table b (yes-to 0) (leb→le 2 (b .points) (yes-to 1)) ∙ sym (eqb→eq cells _ (yes-to 7))
 
 pub keeps-length : (b : BuildInput) (before : List Float) → length (bufferAfter b before) ≡ length before
 unfolding bufferAfter

@@ -17,10 +17,10 @@ use Rattle.rules.specs.Query.{derivativeFactor, term, fusedSteps, fusedD
 use Rattle.rules.specs.Query.{derivative, derivativeAfter}
 use Rattle.rules.specs.Master.{within, masterQuestions, masterNumber, binomial, sumℤ, atEnd, same, meetsLeft, meetsRight, meetsStart, meetsEnd, meetsJoints}
 use Rattle.rules.specs.Master.{endpointEquations, jointEquations, checkMaster}
-use Rattle.rules.specs.Pieces.{holds, exactly, alike, allAlike, tableOf, queryOf, oneEach, curve, atRest, starting, setOfD, greatest, starred, further}
+use Rattle.rules.specs.Pieces.{holds, input, buildOf, exactly, alike, allAlike, tableOf, queryOf, oneEach, curve, atRest, starting, setOfD, greatest, starred, further}
 
 both : T (all holds starred) × T (all holds further)
-unfolding holds exactly alike allAlike tableOf queryOf oneEach curve atRest starting setOfD greatest starred further
+unfolding holds input buildOf exactly alike allAlike tableOf queryOf oneEach curve atRest starting setOfD greatest starred further
     add sub mul div neg lt eq le ofInt isNan toBits sumOf joined listed all every firstNo exactProduct fused m1 m2 m3 forOrder
     matrix times minus pivotRow exchange exchanged eliminated factorSteps factor nonzeroPivots
     forward backward solve column solveMatrix nodeMatrix nodeFactors solvedC

@@ -37,15 +37,7 @@ module _ (i : QueryInput) (n : Lengths) where
 
   asked : queryNumber i n ≡ 0 → T (three && valid 3 (n .dddq))
   unfolding queryNumber queryQuestions
-  asked e =
-      let q1 = said-yes _ 302 _ tt e in
-      let q2 = said-yes _ 304 _ tt (q1 .1) in
-      let q3 = said-yes _ 2 _ tt (q2 .1) in
-      let q4 = said-yes _ 300 _ tt (q3 .1) in
-      let q5 = said-yes _ 301 _ tt (q4 .1) in
-      let q6 = said-yes _ 303 _ tt (q5 .1) in
-      let q7 = said-yes _ 308 _ tt (q6 .1) in
-      said-yes _ 2 _ tt (q7 .1) .0
+  asked e = said-yes (queryQuestions i n) tt e 7
 
   each : T (three && valid 3 (n .dddq)) → (k : ℕ) → k ≤ 3 → T (valid k (lengthOf n k))
   each t zero h = and-l (valid 0 (n .q)) (valid 1 (n .dq)) (and-l two (valid 2 (n .ddq)) (and-l three (valid 3 (n .dddq)) t))

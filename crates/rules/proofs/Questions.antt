@@ -1,13 +1,30 @@
--- The answer 0 means a yes to every question: `said-yes` takes them one after the other. Assumes nothing.
+-- The answer 0 means a yes to every question: `said-yes`, at the place of a question in its list. Assumes nothing.
 use mathlib.Core.Path.{_≡_, sym, subst}
-use mathlib.Core.Bool.{Bool, true, false, not}
-use mathlib.Core.List.{List, _∷_}
-use Prim.Native.Nat.{ℕ}
+use mathlib.Core.Bool.{Bool, true, false, not, _&&_}
+use mathlib.Core.List.{List, [], _∷_}
+use Prim.Native.Nat.{ℕ, zero, suc}
 use lib.Dec.{T, eqb, eqb-refl, T-not}
+use lib.Ieee.Fits.{and-l, and-r}
 use Rattle.rules.specs.Questions.{Question, ask, firstNo}
 
--- the first question's answer is yes and the rest's is 0. Its number is not 0, which `tt` shows of a numeral.
-pub said-yes : (b : Bool) (n : ℕ) (rest : List Question) → T (not (eqb n 0)) → firstNo (ask b n ∷ rest) ≡ 0 → T b × (firstNo rest ≡ 0)
+-- the answer to the question at a place, counted from 0
+abbrev pub answerAt : List Question → ℕ → Bool
+answerAt [] k = true
+answerAt (ask b n ∷ rest) zero = b
+answerAt (ask b n ∷ rest) (suc k) = answerAt rest k
+
+-- no number is 0, which would be a yes; `tt` shows it of a list whose numbers are written out
+abbrev pub numbered : List Question → Bool
+numbered [] = true
+numbered (ask b n ∷ rest) = not (eqb n 0) && numbered rest
+
+never : (n : ℕ) (rest : Bool) → T (not (eqb n 0) && rest) → n ≡ 0 → ⊥
+never n rest h e = T-not (eqb n 0) (and-l (not (eqb n 0)) rest h) (subst (λ (k : ℕ). T (eqb k 0)) (sym e) (eqb-refl 0))
+
+pub said-yes : (qs : List Question) → T (numbered qs) → firstNo qs ≡ 0 → (k : ℕ) → T (answerAt qs k)
 unfolding firstNo
-said-yes true n rest h e = (tt, e)
-said-yes false n rest h e = absurd (T-not (eqb n 0) h (subst (λ (k : ℕ). T (eqb k 0)) (sym e) (eqb-refl 0)))
+said-yes [] h e k = tt
+said-yes (ask true n ∷ rest) h e zero = tt
+said-yes (ask true n ∷ rest) h e (suc k) = said-yes rest (and-r (not (eqb n 0)) (numbered rest) h) e k
+said-yes (ask false n ∷ rest) h e zero = never n (numbered rest) h e
+said-yes (ask false n ∷ rest) h e (suc k) = absurd (never n (numbered rest) h e)

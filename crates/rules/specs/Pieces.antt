@@ -1,8 +1,7 @@
 -- The trial pieces of document 01 that are starred, a to l, as one list, and what it is for a piece to hold of the definitions. `starred-hold` of
--- proofs/Pieces.antt is the single claim about all of them. A second list, `further`, has the pieces m, n and o, and what document 01 warns of under
--- "Slopes that look true" and no piece tells.
+-- proofs/Pieces.antt is the single claim about all of them. A second list, `further`, has the pieces m, n and o, and a piece for each rule that no piece tells.
 -- Assumes nothing.
-use Prim.Native.Nat.{ℕ, _+_, _-_, _^_}
+use Prim.Native.Nat.{ℕ, _+_, _-_, _/_, _^_}
 use mathlib.Core.Bool.{Bool, true, false, not, _&&_, _||_, Bool·beq}
 use mathlib.Core.List.{List, [], _∷_, map}
 use lib.IntN.{ℤ, pos, negsuc}
@@ -17,6 +16,7 @@ use Rattle.rules.specs.Floats.{_!_, +0, ofCount, ofInts}
 use Rattle.rules.specs.Lists.{joined, every}
 use Rattle.rules.specs.Fused.{fused}
 use Rattle.rules.specs.Tables.{mOf, neg}
+use Rattle.rules.specs.Solve.{pivotRow}
 use Rattle.rules.specs.Build.{BuildInput, tableLength, buildNumber, buildAnswer, bufferAfter}
 use Rattle.rules.specs.Query.{QueryInput, Lengths, queryNumber, derivativeAfter, lookup, lookupSays}
 use Rattle.rules.specs.Master.{MasterSet, checkMaster, endpointEquations, meetsJoints}
@@ -34,10 +34,36 @@ pub data Piece : Type 0 where
   stepped : Float → Float → Float → Float → Piece
   -- a lookup in what a build gives: s, the segment and tau
   found : BuildInput → Float → ℕ → Float → Piece
-  -- a refusal's number, and the one that it should be
-  refused : ℕ → ℕ → Piece
+  -- a whole number that a rule gives, and the one that it should be
+  answered : ℕ → ℕ → Piece
+  -- a set that the check says yes to, and whose table a build from its points and states gives
+  rebuilt : MasterSet → Piece
   -- a set that meets the endpoint equations and the joint equations up to r = m alone, and that the check says no to
   loose : MasterSet → Piece
+
+-- a build on the range from 0 to hi: so many axes, their waypoints, and both states with their numbers
+unfoldable pub input : ℕ → ℕ → OutOfRangeMode → ℕ → List Float → BoundaryState → List Float → BoundaryState → List Float → BuildInput
+input order hi mode axes waypoints startState start endState end = record {
+  config = record {
+    order = order;
+    «s_min» = record { 0 = +0 };
+    «s_max» = record { 0 = ofCount hi };
+    «out_of_range_mode» = mode;
+    «start_state» = startState;
+    «end_state» = endState;
+  };
+  points = length waypoints / axes;
+  axes = axes;
+  waypoints = waypoints;
+  start = start;
+  end = end;
+}
+
+-- a build from a set's points and states, not marked
+unfoldable pub buildOf : MasterSet → BuildInput
+buildOf s =
+    let state = Given 1 (mOf (s .order)) false in
+    input (s .order) 1 Error 1 (ofInts (s .waypoints)) state (ofInts (s .start)) state (ofInts (s .end))
 
 -- the very value: the same bits
 unfoldable pub exactly : Float → Float → Bool
@@ -74,7 +100,8 @@ holds (stepped a b c r) = exactly (fused binary64 a b c) r
 holds (found b s segment tau) =
     let says = lookupSays (lookup (queryOf b s .path) (record { 0 = s })) in
     eqb (says .number) 0 && eqb (says .segment) segment && exactly (says .value) tau
-holds (refused number expected) = eqb number expected
+holds (answered number expected) = eqb number expected
+holds (rebuilt s) = checkMaster s .good && allAlike (tableOf (buildOf s) (length (s .table))) (ofInts (s .table))
 holds (loose s) =
     let m = mOf (s .order) in
     endpointEquations s && meetsJoints m (length (s .waypoints) - 1) (s .table) m
@@ -92,21 +119,7 @@ ofNats ns = map ofCount ns
 
 -- one axis on the range from 0 to hi, with the end state none
 unfoldable pub curve : ℕ → ℕ → List ℕ → BoundaryState → List ℕ → OutOfRangeMode → BuildInput
-curve order hi waypoints state start mode = record {
-  config = record {
-    order = order;
-    «s_min» = record { 0 = +0 };
-    «s_max» = record { 0 = ofCount hi };
-    «out_of_range_mode» = mode;
-    «start_state» = state;
-    «end_state» = None;
-  };
-  points = length waypoints;
-  axes = 1;
-  waypoints = ofNats waypoints;
-  start = ofNats start;
-  end = [];
-}
+curve order hi waypoints state start mode = input order hi mode 1 (ofNats waypoints) state (ofNats start) None []
 
 -- "States zero unless said."
 unfoldable pub atRest : ℕ → ℕ → List ℕ → BuildInput
@@ -167,13 +180,50 @@ further =
     built (curve 3 2 (0 ∷ 1 ∷ []) (Given 1 1 true) (3 ∷ []) Error) (ofInts (pos 0 ∷ pos 6 ∷ neg 9 ∷ pos 4 ∷ [])) ∷
     -- o, all but the 257 points that are accepted: one more gives 2; 1 point 304; order 4 with 1 point 302; s NaN 305 in both modes;
     -- state number 2^40 + 1 in a check 4
-    refused (buildNumber (atRest 3 1 (replicate 258 0)) (tableLength 1 257 3)) 2 ∷
-    refused (buildNumber (atRest 3 1 (0 ∷ [])) 0) 304 ∷
-    refused (buildNumber (atRest 4 1 (0 ∷ [])) 0) 302 ∷
-    refused (queryNumber (queryOf (atRest 3 1 (0 ∷ 1 ∷ [])) nan) oneEach) 305 ∷
-    refused (queryNumber (queryOf (curve 3 1 (0 ∷ 1 ∷ []) None [] Clamp) nan) oneEach) 305 ∷
-    refused (checkMaster (setOfD (pos (2 ^ 40 + 1)) (pos 0 ∷ pos 0 ∷ pos 6 ∷ neg 2 ∷ pos 4 ∷ pos 6 ∷ pos 0 ∷ neg 2 ∷ [])) .number) 4 ∷
+    answered (buildNumber (atRest 3 1 (replicate 258 0)) (tableLength 1 257 3)) 2 ∷
+    answered (buildNumber (atRest 3 1 (0 ∷ [])) 0) 304 ∷
+    answered (buildNumber (atRest 4 1 (0 ∷ [])) 0) 302 ∷
+    answered (queryNumber (queryOf (atRest 3 1 (0 ∷ 1 ∷ [])) nan) oneEach) 305 ∷
+    answered (queryNumber (queryOf (curve 3 1 (0 ∷ 1 ∷ []) None [] Clamp) nan) oneEach) 305 ∷
+    answered (checkMaster (setOfD (pos (2 ^ 40 + 1)) (pos 0 ∷ pos 0 ∷ pos 6 ∷ neg 2 ∷ pos 4 ∷ pos 6 ∷ pos 0 ∷ neg 2 ∷ [])) .number) 4 ∷
     -- "Halving the second state number": g with the start 0 1. In g itself that number is 0, and so is half of it.
     built (starting 5 (0 ∷ 0 ∷ []) (0 ∷ 1 ∷ [])) (ofInts (pos 0 ∷ pos 0 ∷ pos 1 ∷ neg 3 ∷ pos 3 ∷ neg 1 ∷ [])) ∷
     -- "Joints checked only to r = m: smooth to the eye, not unique": a second table for the points and states of d
-    loose (setOfD (pos 0) (pos 0 ∷ pos 0 ∷ pos 12 ∷ neg 8 ∷ pos 4 ∷ pos 0 ∷ pos 12 ∷ neg 8 ∷ [])) ∷ []
+    loose (setOfD (pos 0) (pos 0 ∷ pos 0 ∷ pos 12 ∷ neg 8 ∷ pos 4 ∷ pos 0 ∷ pos 12 ∷ neg 8 ∷ [])) ∷
+    -- both states at inner nodes, and more than one inner node: sets of order 3, 5 and 7
+    rebuilt (record {
+      order = 3;
+      waypoints = pos 1 ∷ pos 5 ∷ pos 18 ∷ pos 29 ∷ [];
+      start = pos 2 ∷ [];
+      end = pos 11 ∷ [];
+      table =
+          pos 1 ∷ pos 2 ∷ neg 1 ∷ pos 3 ∷
+          pos 5 ∷ pos 9 ∷ pos 8 ∷ neg 4 ∷
+          pos 18 ∷ pos 13 ∷ neg 4 ∷ pos 2 ∷ [];
+    }) ∷
+    rebuilt (record {
+      order = 5;
+      waypoints = pos 0 ∷ pos 1 ∷ neg 41 ∷ [];
+      start = pos 1 ∷ pos 2 ∷ [];
+      end = neg 106 ∷ neg 90 ∷ [];
+      table =
+          pos 0 ∷ pos 1 ∷ pos 2 ∷ neg 1 ∷ pos 1 ∷ neg 2 ∷
+          pos 1 ∷ neg 4 ∷ neg 15 ∷ neg 17 ∷ neg 9 ∷ pos 3 ∷ [];
+    }) ∷
+    rebuilt (record {
+      order = 7;
+      waypoints = pos 2 ∷ pos 5 ∷ [];
+      start = neg 1 ∷ pos 1 ∷ pos 3 ∷ [];
+      end = pos 14 ∷ pos 29 ∷ pos 40 ∷ [];
+      table = pos 2 ∷ neg 1 ∷ pos 1 ∷ pos 3 ∷ neg 2 ∷ pos 1 ∷ pos 0 ∷ pos 1 ∷ [];
+    }) ∷
+    -- two axes, column-major: points 0 1 with the start 0 1, beside points 0 0 at rest
+    built (input 5 1 Error 2 (ofNats (0 ∷ 0 ∷ 1 ∷ 0 ∷ [])) (Given 2 2 false) (ofNats (0 ∷ 0 ∷ 1 ∷ 0 ∷ [])) None [])
+    (ofInts (pos 0 ∷ pos 0 ∷ pos 1 ∷ pos 7 ∷ neg 12 ∷ pos 5 ∷ pos 0 ∷ pos 0 ∷ pos 0 ∷ pos 0 ∷ pos 0 ∷ pos 0 ∷ [])) ∷
+    -- "divided by inv_ds r + 1 times": range 0 to 2, start 0 3 per unit of s, so coefficient 2 is 12
+    built (curve 5 2 (0 ∷ 0 ∷ []) (Given 1 2 true) (0 ∷ 3 ∷ []) Error) (ofInts (pos 0 ∷ pos 0 ∷ pos 12 ∷ neg 36 ∷ pos 36 ∷ neg 12 ∷ [])) ∷
+    -- orders 5 and 7 in a query: b and c at s 0.25
+    queried (atRest 5 1 (0 ∷ 1 ∷ [])) (1 ÷2^ 2) ((53 ÷2^ 9) ∷ (135 ÷2^ 7) ∷ (45 ÷2^ 3) ∷ fin true 15 (negsuc 0) ∷ []) ∷
+    queried (atRest 7 1 (0 ∷ 1 ∷ [])) (1 ÷2^ 2) ((289 ÷2^ 12) ∷ (945 ÷2^ 10) ∷ (945 ÷2^ 7) ∷ (315 ÷2^ 5) ∷ []) ∷
+    -- "first of equals": 1 above −1
+    answered (pivotRow 2 (ofInts (pos 1 ∷ pos 2 ∷ neg 1 ∷ pos 3 ∷ [])) 0 1) 0 ∷ []
