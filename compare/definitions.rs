@@ -187,7 +187,10 @@ impl Build {
         let order = random.pick(&[3, 5, 7]);
         let m = (order - 1) / 2;
         let points = 2 + random.below(5) as usize;
-        let s_min = random.coordinate();
+        let low = random.coordinate();
+        let high = low + random.coordinate().abs() + random.pick(&[0.5, 1.0, 3.0]);
+        // a low end so great that the range vanishes beside it is no range
+        let (s_min, s_max) = if low < high { (low, high) } else { (0.0, 1.0) };
         Build {
             order,
             points,
@@ -196,7 +199,7 @@ impl Build {
             start: State::random(random, axes, m),
             end: State::random(random, axes, m),
             s_min,
-            s_max: s_min + random.coordinate().abs() + random.pick(&[0.5, 1.0, 3.0]),
+            s_max,
             clamp: random.one_in(2),
             cells: axes * (points - 1) * (order + 1),
         }
