@@ -1,2 +1,3 @@
 pub mod Carry
 pub mod Shift
+pub mod Round

@@ -34,14 +34,14 @@ pub word-gone : (x n y : ℕ) → x < 2 ^ 64 → 64 ≤ n → Marked 0 x y → S
 word-gone x n y h l m = sticky-cut (2 ^ n) x 0 x y (ap (λ (a : ℕ). a + x) (zero-mul (2 ^ n)) ∙ zero-add x) (lt-of-lt-of-le h (pow-mono l)) (m .0) (m .1)
 
 module _ (h l n : ℕ) (n-lt : n ≤ 64) (l-lt : l < 2 ^ 64) where
-  whole : 2 ^ n * 2 ^ (64 - n) ≡ 2 ^ 64
+  pub whole : 2 ^ n * 2 ^ (64 - n) ≡ 2 ^ 64
   whole = sym (pow-add 2 n (64 - n)) ∙ ap (λ (a : ℕ). 2 ^ a) (join n n-lt)
     where
       join : (n : ℕ) → n ≤ 64 → n + (64 - n) ≡ 64
       join n h = omega arith
 
   -- the digits of the high word that move into the low one
-  moved : h * 2 ^ (64 - n) % 2 ^ 64 ≡ h % 2 ^ n * 2 ^ (64 - n)
+  pub moved : h * 2 ^ (64 - n) % 2 ^ 64 ≡ h % 2 ^ n * 2 ^ (64 - n)
   moved =
       ap (λ (a : ℕ). h * 2 ^ (64 - n) % a) (sym whole)
       ∙ mod-mul (h * 2 ^ (64 - n)) (pow-pos n) (pow-pos (64 - n))

@@ -2,18 +2,18 @@
 -- field, and from the infinity's pattern on it is the infinity's. Assumes nothing.
 use mathlib.Core.Path.{_≡_, refl, sym, ap, ap₂, _∙_, subst}
 use mathlib.Core.Logic.{_⊎_, inl, inr}
-use Prim.Native.Nat.{ℕ, zero, suc, _+_, _-_, _*_, _/_, _^_, _≤_, _<_, min}
-use native.Mathlib.Nat.{le-trans, le-of-eq, le-antisymm, lt-of-lt-of-le, lt-of-le-of-lt, lt-irrefl, not-le-of-lt, le-of-suc-le-suc, lt-of-not-le, mul-comm, mul-one, mul-assoc, suc-mul, mul-le-mul-right, mul-le-mul-left, mul-div-cancel, le-of-mul-le-mul-right, add-assoc, add-mul, mul-le-mul, lt-of-mul-lt-mul-right, min-eq-left, min-eq-right}
+use Prim.Native.Nat.{ℕ, zero, suc, _+_, _-_, _*_, _/_, _%_, _^_, _≤_, _<_, min}
+use native.Mathlib.Nat.{le-trans, le-of-eq, le-antisymm, lt-of-lt-of-le, lt-of-le-of-lt, lt-irrefl, not-le-of-lt, le-of-suc-le-suc, lt-of-not-le, mul-comm, mul-one, mul-assoc, suc-mul, mul-le-mul-right, mul-le-mul-left, mul-div-cancel, le-of-mul-le-mul-right, add-assoc, add-mul, mul-le-mul, lt-of-mul-lt-mul-right, add-mod-left, mod-eq-of-lt, zero-add, min-eq-left, min-eq-right}
 use native.Mathlib.Omega.{arith}
 use mathlib.Core.Bool.{Bool, true, false, not, cond}
 use lib.Dec.{T, lit<, ltb, ltb→lt, nltb→le}
 use lib.Arith.{le→nltb}
 use lib.Pow.{pow-add, pow-pos, pow-mono, pow-lt, shl-lt}
 use lib.IntN.{ℤ}
-use lib.Ieee.{Float, nan, inf, fin, Format, prec, emax, low, up, down, size, odd, units, fits, hid, ones, top, ofBits, toBits}
+use lib.Ieee.{Float, nan, inf, fin, Format, prec, emax, low, up, down, size, odd, units, fits, hid, ones, top, ofBits, nanBits, toBits}
 use lib.Ieee.Digits.{size-lt, size-le}
 use lib.Ieee.Fits.{two, reach, down-pos, inf-fits}
-use lib.Ieee.Bits.{cond-no, ofBits-toBits}
+use lib.Ieee.Bits.{cond-no, ofBits-toBits, nanBits-above}
 use lib.Ieee.Exact.{HasValue, units-val}
 use Rattle.rounding.proofs.Numbers.{less-or-not}
 
@@ -192,3 +192,19 @@ units-bits f s q k h d = elim (less-or-not (q * 2 ^ k) (2 ^ (low f + suc (emax f
   where
     overflowed : (f : Format) (s : Bool) (q k : ℕ) → 2 ^ (low f + suc (emax f)) ≤ q * 2 ^ k → units f s q k ≡ inf s
     overflowed f s q k g = unfold units in cond-no (ltb (q * 2 ^ k) (2 ^ (low f + suc (emax f)))) (odd (suc (prec f)) s q k (low f)) (inf s) (le→nltb (q * 2 ^ k) (2 ^ (low f + suc (emax f))) g)
+
+-- no pattern up to the infinity's is a NaN's
+pub no-nan : (f : Format) (s : Bool) (b : ℕ) → b ≤ ones f * hid f → T (not (nanBits f (cond s (top f) 0 + b)))
+no-nan f s b l =
+    subst (λ (t : Bool). T (not t)) (sym (nanBits-above f (cond s (top f) 0 + b)))
+    (le→nltb (ones f * hid f) ((cond s (top f) 0 + b) % top f) (le-trans (le-of-eq (off s)) l))
+  where
+    under : b < top f
+    under = lt-of-le-of-lt l (lt-of-lt-of-le (more (hid f) (pow-pos (prec f - 1)) (suc-mul (ones f) (hid f))) (le-of-eq (mul-comm (suc (ones f)) (hid f))))
+      where
+        more : (h : ℕ) → 0 < h → {z : ℕ} → z ≡ ones f * h + h → ones f * h < z
+        more h p {z} e = omega arith
+
+    off : (s : Bool) → (cond s (top f) 0 + b) % top f ≡ b
+    off true = add-mod-left (top f) b ∙ mod-eq-of-lt under
+    off false = ap (λ (x : ℕ). x % top f) (zero-add b) ∙ mod-eq-of-lt under

@@ -8,7 +8,7 @@ use mathlib.Core.Bool.{not}
 use lib.Dec.{T, lit<, isLe, isEq, eqb, leb→le, nleb→lt, eqb→eq, eqb-refl}
 use lib.Ieee.{nearest}
 use lib.Ieee.Nearest.{closest, closest-same}
-use Rattle.rounding.proofs.Numbers.{less-or-not, sub-mul, div-is}
+use Rattle.rounding.proofs.Numbers.{less-or-not, sub-mul, div-is, compare-lt, compare-gt}
 use Rattle.rounding.specs.Sticky.{Sticky}
 
 -- ---- how it comes about: a quotient, with its last digit set where the division leaves a rest
@@ -148,22 +148,6 @@ sticky-above v x y t e h (inr (o, l, u)) = le-trans (mul-le-mul-right v (room t 
     le-of-suc {a} {b} k = omega arith
 
 -- ---- what rounding sees
-
-compare-lt : (a b : ℕ) → a < b → compare a b ≡ Ordering·lt
-compare-lt a b h = go (compare a b) (nleb→lt a b) (eqb→eq a b)
-  where
-    go : (o : Ordering) → (T (not (isLe o)) → b < a) → (T (isEq o) → a ≡ b) → o ≡ Ordering·lt
-    go Ordering·lt p q = refl
-    go Ordering·eq p q = let e = q tt in absurd (omega arith)
-    go Ordering·gt p q = let e = p tt in absurd (omega arith)
-
-compare-gt : (a b : ℕ) → b < a → compare a b ≡ Ordering·gt
-compare-gt a b h = go (compare a b) (leb→le a b)
-  where
-    go : (o : Ordering) → (T (isLe o) → a ≤ b) → o ≡ Ordering·gt
-    go Ordering·lt p = let e = p tt in absurd (omega arith)
-    go Ordering·eq p = let e = p tt in absurd (omega arith)
-    go Ordering·gt p = refl
 
 -- Rounded to a multiple of 4 u, x / v and y give the same: neither a multiple nor the middle between two is odd.
 pub closest-sticky : (v x y u : ℕ) → 0 < v → 0 < u → Sticky v x y → closest x (4 * u * v) ≡ closest y (4 * u)

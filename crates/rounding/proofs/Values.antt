@@ -127,12 +127,12 @@ add-values f (fin u m e) (fin r n d) s a t b c p (i, v) (j, w) =
     (mul-right-comm (m * up e) (down d) c ∙ ap (λ (z : ℕ). z * down d) v ∙ mul-assoc a (down e) (down d))
     (mul-right-comm (n * up d) (down e) c ∙ ap (λ (z : ℕ). z * down e) w ∙ mul-assoc b (down d) (down e) ∙ ap (λ (z : ℕ). b * z) (mul-comm (down d) (down e)))
 
+four : (p q c d : ℕ) → p * q * (c * d) ≡ p * c * (q * d)
+four p q c d = simp (mul-assoc, mul-left-comm)
+
 -- (p / q) * (p′ / q′) = (a / c) * (b / d)
 pub cross-product : (p c a q p′ d b q′ : ℕ) → p * c ≡ a * q → p′ * d ≡ b * q′ → p * p′ * (c * d) ≡ a * b * (q * q′)
 cross-product p c a q p′ d b q′ v w = four p p′ c d ∙ ap₂ (λ (x y : ℕ). x * y) v w ∙ four a q b q′
-  where
-    four : (p q c d : ℕ) → p * q * (c * d) ≡ p * c * (q * d)
-    four p q c d = simp (mul-assoc, mul-comm, mul-left-comm)
 
 pub mul-values : (f : Format) (x y : Float) (s : Bool) (a c : ℕ) (t : Bool) (b d : ℕ) → 0 < c → 0 < d → HasValue x s a c → HasValue y t b d
     → mul f x y ≡ round f (unlike s t) (a * b) (c * d)
@@ -145,3 +145,9 @@ mul-values f (fin u m e) (fin r n z) s a c t b d p q (i, v) (j, w) =
     ap₂ (λ (g h : Bool). round f (unlike g h) (m * up e * (n * up z)) (down e * down z)) i j
     ∙ round-same f (unlike s t) (m * up e * (n * up z)) (down e * down z) (a * b) (c * d) (mul-pos (down-pos e) (down-pos z)) (mul-pos p q)
     (cross-product (m * up e) c a (down e) (n * up z) d b (down z) v w)
+
+-- a fraction whose powers of two are moved
+pub round-shift : (f : Format) (s : Bool) (x v a b c d : ℕ) → 0 < v → a + d ≡ c + b → round f s (x * 2 ^ a) (v * 2 ^ b) ≡ round f s (x * 2 ^ c) (v * 2 ^ d)
+round-shift f s x v a b c d p e =
+    round-same f s (x * 2 ^ a) (v * 2 ^ b) (x * 2 ^ c) (v * 2 ^ d) (mul-pos p (pow-pos b)) (mul-pos p (pow-pos d))
+    (four x (2 ^ a) v (2 ^ d) ∙ ap (λ (n : ℕ). x * v * n) (sym (pow-add 2 a d) ∙ ap (λ (n : ℕ). 2 ^ n) e ∙ pow-add 2 c b) ∙ sym (four x (2 ^ c) v (2 ^ b)))
