@@ -5,11 +5,12 @@ use Prim.Native.Nat.{ℕ, zero, suc, _+_, _-_, _*_, _/_, _%_, _^_, _≤_, _<_, z
 use native.Mathlib.Nat.{zero-mul, one-mul, zero-add, add-mul, mul-add, mul-assoc, mul-comm, mod-eq-of-lt, mod-eq-sub-mod, div-add-mod', mul-lt-mul-of-pos-right, lt-of-le-of-lt, lt-of-lt-of-le, mul-le-mul-left, le-of-lt, le-of-eq, mul-lt-mul-of-pos-left, le-trans, add-comm, suc-mul, lt-of-mul-lt-mul-right, le-of-suc-le-suc, mul-le-mul-right, mul-right-comm, mul-left-comm}
 use native.Mathlib.Omega.{arith}
 use mathlib.Core.Bool.{Bool, true, false, cond}
-use lib.Dec.{T, ltb, lt→ltb}
-use lib.Arith.{le→nltb}
+use lib.Dec.{T, ltb, lt→ltb, ltb→lt}
+use lib.Arith.{le→nltb, lt-of-le-ne}
 use lib.Pow.{pow-add, pow-pos}
 use lib.Ieee.Bits.{is-true, is-false}
 use Rattle.fused.specs.Words.{flag}
+use Rattle.rounding.proofs.Sums.{same-test}
 use Rattle.rounding.proofs.Numbers.{less-or-not, sub-mul}
 
 abbrev pick : Bool → ℕ
@@ -92,3 +93,18 @@ multiplied n a b k l e =
       where
         crossed : (w x y z : ℕ) → w * x * (y * z) ≡ w * y * (x * z)
         crossed w x y z = simp (mul-assoc, mul-comm, mul-left-comm)
+
+-- ---- the order of two numbers of two digits
+
+pub less-low : (x a y b : ℕ) → x ≡ y → ltb a b ≡ ltb (x * 2 ^ 64 + a) (y * 2 ^ 64 + b)
+less-low x a y b e =
+    let t : x * 2 ^ 64 ≡ y * 2 ^ 64 = ap (λ (i : ℕ). i * 2 ^ 64) e in
+    same-test (ltb a b) (ltb (x * 2 ^ 64 + a) (y * 2 ^ 64 + b))
+    (λ h. let l = ltb→lt a b h in lt→ltb (x * 2 ^ 64 + a) (y * 2 ^ 64 + b) (omega (arith, l, t)))
+    (λ h. let l = ltb→lt (x * 2 ^ 64 + a) (y * 2 ^ 64 + b) h in lt→ltb a b (omega (arith, l, t)))
+
+pub less-high : (x a y b : ℕ) → a < 2 ^ 64 → b < 2 ^ 64 → (x ≡ y → ⊥) → ltb x y ≡ ltb (x * 2 ^ 64 + a) (y * 2 ^ 64 + b)
+less-high x a y b p q n =
+    same-test (ltb x y) (ltb (x * 2 ^ 64 + a) (y * 2 ^ 64 + b))
+    (λ h. let l = ltb→lt x y h in lt→ltb (x * 2 ^ 64 + a) (y * 2 ^ 64 + b) (omega (arith, l, p)))
+    (λ h. let l = ltb→lt (x * 2 ^ 64 + a) (y * 2 ^ 64 + b) h in lt→ltb x y (lt-of-le-ne (omega (arith, l, q)) n))

@@ -1,3 +1,4 @@
 pub mod Carry
 pub mod Shift
 pub mod Round
+pub mod Cases

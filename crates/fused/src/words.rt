@@ -2,6 +2,7 @@
 // in its last bit whether something was shifted out.
 ghost use mathlib.Core.Path.{_≡_};
 ghost use Prim.Native.Nat.{_+_, _-_, _*_, _/_, _^_, _≤_, _<_};
+ghost use lib.Dec.{ltb};
 ghost use Rattle.rounding.specs.Sticky.{Sticky};
 ghost use Rattle.fused.specs.Words.{value, flag};
 
@@ -39,7 +40,7 @@ pub fn product(a: u64, b: u64) -> Words
 // x + y: the low words are added modulo 2^64, and the carry is noted.
 pub fn sum(xh: u64, xl: u64, yh: u64, yl: u64) -> Words
     requires { ⌜ xh + yh < 2 ^ 63 ⌝ }
-    ensures { λ r. ⌜ value r ≡ xh * 2 ^ 64 + xl + (yh * 2 ^ 64 + yl) ⌝ }
+    ensures { λ r. ⌜ (value r ≡ xh * 2 ^ 64 + xl + (yh * 2 ^ 64 + yl)) × (r .low < 2 ^ 64) ⌝ }
 {
     let low = std::num::wrapping_add_u64(xl, yl);
     let carry = below(low, xl);
@@ -49,7 +50,7 @@ pub fn sum(xh: u64, xl: u64, yh: u64, yl: u64) -> Words
 // x - y: the low words are subtracted modulo 2^64, and the borrow is noted.
 pub fn difference(xh: u64, xl: u64, yh: u64, yl: u64) -> Words
     requires { ⌜ yh * 2 ^ 64 + yl ≤ xh * 2 ^ 64 + xl ⌝ }
-    ensures { λ r. ⌜ value r ≡ xh * 2 ^ 64 + xl - (yh * 2 ^ 64 + yl) ⌝ }
+    ensures { λ r. ⌜ (value r ≡ xh * 2 ^ 64 + xl - (yh * 2 ^ 64 + yl)) × (r .low < 2 ^ 64) ⌝ }
 {
     let low = std::num::wrapping_sub_u64(xl, yl);
     let borrow = below(xl, yl);
@@ -89,4 +90,10 @@ pub fn shifted(xh: u64, xl: u64, n: u64) -> Words
     } else {
         Words { high: 0, low: shifted_word(marked(xh, xl), n - 64) }
     }
+}
+
+pub fn less(xh: u64, xl: u64, yh: u64, yl: u64) -> bool
+    ensures { λ r. ⌜ r ≡ ltb (xh * 2 ^ 64 + xl) (yh * 2 ^ 64 + yl) ⌝ }
+{
+    if xh == yh { xl < yl } else { xh < yh }
 }

@@ -2,7 +2,7 @@
 use mathlib.Core.Path.{_≡_, refl, sym, ap, ap₂, _∙_, subst}
 use mathlib.Core.Logic.{_⊎_, inl, inr}
 use Prim.Native.Nat.{ℕ, zero, suc, _+_, _-_, _*_, _/_, _%_, _≤_, _<_, compare, Ordering, Ordering·lt, Ordering·eq, Ordering·gt}
-use native.Mathlib.Nat.{le-trans, le-of-eq, lt-of-lt-of-le, lt-of-le-of-lt, lt-irrefl, add-mul, suc-mul, mul-assoc, mul-comm, mul-right-comm, mul-left-comm, mul-pos, mul-le-mul-right, mul-lt-mul-of-pos-right, div-add-mod', div-lt-iff-lt-mul, le-div-iff-mul-le, le-antisymm, le-of-lt, le-of-suc-le-suc, mod-lt, mul-mod-left, eq-zero-or-pos}
+use native.Mathlib.Nat.{le-trans, le-of-eq, lt-of-lt-of-le, lt-of-le-of-lt, lt-irrefl, add-mul, suc-mul, mul-assoc, mul-comm, mul-right-comm, mul-left-comm, mul-pos, mul-one, mul-le-mul-left, mul-le-mul-right, mul-lt-mul-of-pos-right, div-add-mod', div-lt-iff-lt-mul, le-div-iff-mul-le, le-antisymm, le-of-lt, le-of-suc-le-suc, mod-lt, mul-mod-left, eq-zero-or-pos}
 use native.Mathlib.Omega.{arith}
 use mathlib.Core.Bool.{not}
 use lib.Dec.{T, lit<, isLe, isEq, eqb, leb→le, nleb→lt, eqb→eq, eqb-refl}
@@ -217,3 +217,10 @@ closest-sticky v x y u p q (inr (o, l, h)) =
 
         twice-gt : (u v b : ℕ) → 2 * u * v < b → 4 * u * v < b * 2
         twice-gt u v b h = let e = mul-assoc 4 u v in let g = mul-assoc 2 u v in omega (arith, e, g)
+
+pub sticky-le : (v x y : ℕ) → 0 < v → Sticky v x y → y ≤ x
+sticky-le v x y p (inl g) = le-trans (le-trans (le-of-eq (sym (mul-one y))) (mul-le-mul-left y p)) (le-of-eq (sym g))
+sticky-le v x y p (inr (o, l, h)) = at-most y x o (lt-of-le-of-lt (le-trans (le-of-eq (sym (mul-one (y - 1)))) (mul-le-mul-left (y - 1) p)) l)
+  where
+    at-most : (y x : ℕ) → y % 2 ≡ 1 → y - 1 < x → y ≤ x
+    at-most y x o h = omega arith

@@ -12,7 +12,7 @@ use lib.Ieee.Bits.{is-true, is-false}
 use lib.Ieee.Scale.{round-same}
 use Rattle.rounding.proofs.Numbers.{less-or-not, sub-mul}
 
-same-test : (a b : Bool) → (T a → T b) → (T b → T a) → a ≡ b
+pub same-test : (a b : Bool) → (T a → T b) → (T b → T a) → a ≡ b
 same-test true true p q = refl
 same-test true false p q = absurd (p tt)
 same-test false true p q = absurd (q tt)
