@@ -2,3 +2,5 @@ pub mod Carry
 pub mod Shift
 pub mod Round
 pub mod Cases
+pub mod Values
+pub mod Unpack

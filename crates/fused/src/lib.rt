@@ -1,4 +1,104 @@
 // The fused multiply-add, module 1 of document 01: a * b + c with one rounding, for all operands.
+ghost use mathlib.Core.Path.{_≡_};
+ghost use Prim.Native.Nat.{_*_, _%_, _^_, _≤_, _<_};
+ghost use lib.Dec.{T, leb};
+ghost use lib.Ieee as Ieee;
+ghost use lib.Ieee.{binary64, unlike, top};
+ghost use lib.Ieee.Scale as Scale;
+ghost use Rattle.rules.specs.Fused.{fused};
+ghost use Rattle.fused.specs.Parts.{field, magnitude, Nonzero};
 mod words;
 mod pack;
 mod align;
+
+// The magnitude of a float: `digits` * 2^`exponent` / 2^1136.
+struct Parts {
+    digits: u64,
+    exponent: u64,
+}
+
+// The magnitude of the float that the bits are, with its leading digit at bit 62.
+fn unpacked(bits: u64) -> Parts
+    requires { ⌜ Nonzero bits ⌝ }
+    ensures { λ r. ⌜ (r .digits * 2 ^ r .exponent ≡ magnitude bits * 2 ^ 62) × (2 ^ 62 ≤ r .digits) × (r .digits < 2 ^ 63) × (r .digits % 2 ≡ 0) × (r .exponent < 2100) ⌝ }
+{
+    let field = bits % 0x8000_0000_0000_0000 / 0x10_0000_0000_0000;
+    let low = bits % 0x10_0000_0000_0000;
+    if field == 0 {
+        let zeros = u64::leading_zeros(low) as u64;
+        Parts { digits: low << (zeros - 1), exponent: 63 - zeros }
+    } else {
+        Parts { digits: (0x10_0000_0000_0000 + low) * 0x400, exponent: field + 51 }
+    }
+}
+
+// a * b + c of three floats, by their bits, that are finite and not zero.
+fn of_bits(x: u64, y: u64, z: u64) -> f64
+    requires { ⌜ Nonzero x × Nonzero y × Nonzero z ⌝ }
+    ensures { λ r. ⌜ r ≡ Ieee.sum binary64 (unlike (leb (top binary64) x) (leb (top binary64) y)) (magnitude x * magnitude y) (leb (top binary64) z) (magnitude z * 2 ^ 1074) (2 ^ 2148) ⌝ }
+{
+    let a = unpacked(x);
+    let b = unpacked(y);
+    let c = unpacked(z);
+    let p = words::product(a.digits, b.digits);
+    let negative = (0x8000_0000_0000_0000 <= x) != (0x8000_0000_0000_0000 <= y);
+    align::rounded_sum(
+        negative,
+        p.high,
+        p.low,
+        a.exponent + b.exponent,
+        0x8000_0000_0000_0000 <= z,
+        c.digits / 2,
+        0,
+        c.exponent + 1073,
+    )
+}
+
+// Neither a NaN nor an infinity.
+fn finite(x: f64) -> bool
+    ensures { λ r. ⌜ r ≡ Scale.finite x ⌝ }
+{
+    x - x == 0.0
+}
+
+// a * b + c with one rounding, for all operands.
+//
+// Where an operand is not finite, or a factor is zero, the product needs no rounding. A zero addend
+// leaves the rounded product, whose sign it must not change; and an infinite one is the answer even
+// where the product alone would overflow.
+fn general(a: f64, b: f64, c: f64) -> f64
+    ensures { λ r. ⌜ r ≡ fused binary64 a b c ⌝ }
+{
+    if finite(a) {
+    } else {
+        return a * b + c;
+    }
+    if finite(b) {
+    } else {
+        return a * b + c;
+    }
+    if finite(c) {
+    } else {
+        return c;
+    }
+    let x = f64::to_bits(a);
+    let y = f64::to_bits(b);
+    let z = f64::to_bits(c);
+    if x % 0x8000_0000_0000_0000 == 0 {
+        return a * b + c;
+    }
+    if y % 0x8000_0000_0000_0000 == 0 {
+        return a * b + c;
+    }
+    if z % 0x8000_0000_0000_0000 == 0 {
+        return a * b;
+    }
+    of_bits(x, y, z)
+}
+
+// a * b + c with one rounding, as IEEE 754's fusedMultiplyAdd.
+pub fn mul_add(a: f64, b: f64, c: f64) -> f64
+    ensures { λ r. ⌜ r ≡ fused binary64 a b c ⌝ }
+{
+    general(a, b, c)
+}

@@ -1,0 +1,16 @@
+-- What the bits of a float of 64 bits are. Assumes nothing.
+use Prim.Native.Nat.{ℕ, _+_, _*_, _/_, _%_, _^_, _≤_, _<_}
+use lib.Ieee.{binary64, hid, ones, top}
+use Rattle.rounding.specs.Weight.{weight}
+
+-- the exponent's field
+abbrev pub field : ℕ → ℕ
+field b = b % top binary64 / hid binary64
+
+-- the magnitude in units of the smallest float
+abbrev pub magnitude : ℕ → ℕ
+magnitude b = weight binary64 (field b) (b % hid binary64)
+
+-- finite, and not zero
+abbrev pub Nonzero : ℕ → Type 0
+Nonzero b = (field b < ones binary64) × (0 < b % top binary64)
