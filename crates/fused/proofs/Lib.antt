@@ -4,3 +4,5 @@ pub mod Round
 pub mod Cases
 pub mod Values
 pub mod Unpack
+pub mod Convert
+pub mod Window

@@ -113,7 +113,7 @@ weight-zero (suc f) l e = absurd (none f e)
     none : (f : ℕ) → suc f ≡ 0 → ⊥
     none f e = omega arith
 
-weight-more : (f l : ℕ) → 0 < f → (2 ^ 52 + l) * 2 ^ (f - 1) ≡ weight binary64 f l
+pub weight-more : (f l : ℕ) → 0 < f → (2 ^ 52 + l) * 2 ^ (f - 1) ≡ weight binary64 f l
 unfolding weight
 weight-more zero l h = absurd (none h)
   where

@@ -1,6 +1,7 @@
 -- What the bits of a float of 64 bits are. Assumes nothing.
 use Prim.Native.Nat.{ℕ, _+_, _*_, _/_, _%_, _^_, _≤_, _<_}
-use lib.Ieee.{binary64, hid, ones, top}
+use lib.Dec.{leb}
+use lib.Ieee.{Float, binary64, unlike, sum, hid, ones, top}
 use Rattle.rounding.specs.Weight.{weight}
 
 -- the exponent's field
@@ -14,3 +15,11 @@ magnitude b = weight binary64 (field b) (b % hid binary64)
 -- finite, and not zero
 abbrev pub Nonzero : ℕ → Type 0
 Nonzero b = (field b < ones binary64) × (0 < b % top binary64)
+
+-- a * b + c of three finite floats by their bits, rounded once
+abbrev pub summed : ℕ → ℕ → ℕ → Float
+summed x y z = sum binary64 (unlike (leb (top binary64) x) (leb (top binary64) y)) (magnitude x * magnitude y) (leb (top binary64) z) (magnitude z * 2 ^ 1074) (2 ^ 2148)
+
+-- The common case: both factors are between 2 ^ -423 and 2 ^ 477, and the addend's last digit is from 0 to 62 places above the product's.
+abbrev pub Common : ℕ → ℕ → ℕ → Type 0
+Common x y z = (600 ≤ field x) × (field x < 1500) × (600 ≤ field y) × (field y < 1500) × (field x + field y ≤ field z + 1075) × (field z + 1075 < field x + field y + 63)

@@ -1,15 +1,14 @@
 // The fused multiply-add, module 1 of document 01: a * b + c with one rounding, for all operands.
 ghost use mathlib.Core.Path.{_≡_};
 ghost use Prim.Native.Nat.{_*_, _%_, _^_, _≤_, _<_};
-ghost use lib.Dec.{T, leb};
-ghost use lib.Ieee as Ieee;
-ghost use lib.Ieee.{binary64, unlike, top};
+ghost use lib.Ieee.{binary64};
 ghost use lib.Ieee.Scale as Scale;
 ghost use Rattle.rules.specs.Fused.{fused};
-ghost use Rattle.fused.specs.Parts.{field, magnitude, Nonzero};
+ghost use Rattle.fused.specs.Parts.{magnitude, Nonzero, summed};
 mod words;
 mod pack;
 mod align;
+mod near;
 
 // The magnitude of a float: `digits` * 2^`exponent` / 2^1136.
 struct Parts {
@@ -35,7 +34,7 @@ fn unpacked(bits: u64) -> Parts
 // a * b + c of three floats, by their bits, that are finite and not zero.
 fn of_bits(x: u64, y: u64, z: u64) -> f64
     requires { ⌜ Nonzero x × Nonzero y × Nonzero z ⌝ }
-    ensures { λ r. ⌜ r ≡ Ieee.sum binary64 (unlike (leb (top binary64) x) (leb (top binary64) y)) (magnitude x * magnitude y) (leb (top binary64) z) (magnitude z * 2 ^ 1074) (2 ^ 2148) ⌝ }
+    ensures { λ r. ⌜ r ≡ summed x y z ⌝ }
 {
     let a = unpacked(x);
     let b = unpacked(y);
@@ -97,8 +96,18 @@ fn general(a: f64, b: f64, c: f64) -> f64
 }
 
 // a * b + c with one rounding, as IEEE 754's fusedMultiplyAdd.
+//
+// A finite sum of the rounded product says at once that all three operands are finite.
 pub fn mul_add(a: f64, b: f64, c: f64) -> f64
     ensures { λ r. ⌜ r ≡ fused binary64 a b c ⌝ }
 {
+    if finite(a * b + c) {
+        let x = f64::to_bits(a);
+        let y = f64::to_bits(b);
+        let z = f64::to_bits(c);
+        if near::common(x, y, z) {
+            return near::near(x, y, z);
+        }
+    }
     general(a, b, c)
 }

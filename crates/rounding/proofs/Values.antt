@@ -14,7 +14,7 @@ use lib.Ieee.{Float, nan, inf, fin, Format, binary32, binary64, prec, emax, low,
 use lib.Ieee.Digits.{size-le}
 use lib.Ieee.Fits.{round-is, up-pos, down-pos, eq→eqb}
 use lib.Ieee.Bits.{cond-no, is-true}
-use lib.Ieee.Exact.{HasValue, odd-sign}
+use lib.Ieee.Exact.{HasValue, odd-sign, round-exact}
 use lib.Ieee.Scale.{round-same, finite}
 use Rattle.rounding.specs.Weight.{weight}
 use Rattle.rounding.proofs.Sums.{sum-same}
@@ -151,3 +151,11 @@ pub round-shift : (f : Format) (s : Bool) (x v a b c d : ℕ) → 0 < v → a + 
 round-shift f s x v a b c d p e =
     round-same f s (x * 2 ^ a) (v * 2 ^ b) (x * 2 ^ c) (v * 2 ^ d) (mul-pos p (pow-pos b)) (mul-pos p (pow-pos d))
     (four x (2 ^ a) v (2 ^ d) ∙ ap (λ (n : ℕ). x * v * n) (sym (pow-add 2 a d) ∙ ap (λ (n : ℕ). 2 ^ n) e ∙ pow-add 2 c b) ∙ sym (four x (2 ^ c) v (2 ^ b)))
+
+-- A whole number of the format's digits times a power of two that the format holds is exact.
+pub power-times : (f : Format) (u p : Float) (t s : Bool) (h k : ℕ) → h < 2 ^ prec f → h * 2 ^ k < 2 ^ (low f + suc (emax f)) → HasValue u t h 1 → HasValue p s (2 ^ k) (2 ^ low f)
+    → HasValue (mul f u p) (unlike t s) (h * 2 ^ k) (2 ^ low f)
+power-times f u p t s h k l o v w =
+    subst (λ (x : Float). HasValue x (unlike t s) (h * 2 ^ k) (2 ^ low f))
+    (sym (mul-values f u p t h 1 s (2 ^ k) (2 ^ low f) (zero-lt-suc 0) (pow-pos (low f)) v w ∙ ap (round f (unlike t s) (h * 2 ^ k)) (one-mul (2 ^ low f))))
+    (round-exact f (unlike t s) (h * 2 ^ k) (2 ^ low f) h k (pow-pos (low f)) l o refl)

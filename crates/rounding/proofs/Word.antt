@@ -2,14 +2,14 @@
 use mathlib.Core.Path.{_≡_, refl, sym, ap, ap₂, _∙_, subst}
 use mathlib.Core.Logic.{_⊎_, inl, inr}
 use Prim.Native.Nat.{ℕ, zero, suc, _+_, _-_, _*_, _/_, _%_, _^_, _≤_, _<_, compare, min}
-use native.Mathlib.Nat.{le-trans, le-of-eq, le-antisymm, lt-of-lt-of-le, lt-of-le-of-lt, lt-irrefl, lt-of-not-le, mul-comm, mul-assoc, mul-left-comm, mul-right-comm, mul-pos, mul-le-mul-right, mul-lt-mul-of-pos-right, div-lt-iff-lt-mul, le-div-iff-mul-le, mul-mod-left, one-mul}
+use native.Mathlib.Nat.{le-trans, le-of-eq, le-antisymm, lt-of-lt-of-le, lt-of-le-of-lt, lt-irrefl, lt-of-not-le, mul-comm, mul-assoc, mul-left-comm, mul-right-comm, mul-pos, mul-le-mul-right, mul-lt-mul-of-pos-right, div-lt-iff-lt-mul, le-div-iff-mul-le, mul-mod-left, one-mul, mul-one, zero-lt-suc}
 use native.Mathlib.Omega.{arith}
 use mathlib.Core.Bool.{Bool, cond}
 use lib.Dec.{T}
 use lib.Pow.{pow-add, pow-pos, pow-mono, shr-lt}
 use lib.Ieee.{Float, Format, prec, low, size, round, units, fits, hid, ones, top, ofBits}
-use lib.Ieee.Digits.{size-lt, size-le}
-use lib.Ieee.Fits.{round-is, round-fits, nearest-le}
+use lib.Ieee.Digits.{size-lt, size-le, size-reaches}
+use lib.Ieee.Fits.{two, round-is, round-fits, nearest-le}
 use lib.Ieee.Nearest.{closest, closest-same, nearest-ge}
 use Rattle.rounding.specs.Sticky.{Sticky}
 use Rattle.rounding.proofs.Sticky.{sticky-below, sticky-above, closest-sticky}
@@ -104,3 +104,26 @@ module _ (f : Format) (s : Bool) (v x w g h k d : ℕ) (v-pos : 0 < v) (two-drop
       let is : round f s (x * 2 ^ g) den ≡ units f s (closest w (2 ^ d)) k =
       round-is f s (x * 2 ^ g) den ∙ ap (λ (a : ℕ). units f s (closest n (den * 2 ^ a)) a) drops ∙ ap (λ (a : ℕ). units f s a k) digits in
       is ∙ units-bits f s (closest w (2 ^ d)) k (subst (λ (y : Float). T (fits f y)) is (round-fits f s (x * 2 ^ g) den)) kept
+
+-- A sticky number of at least prec + 2 digits rounds as what it stands for.
+pub round-sticky : (f : Format) (s : Bool) (v x y g h : ℕ) → 0 < v → Sticky v x y → 2 ^ suc (prec f) ≤ y → h ≤ g + low f + 2 → round f s (x * 2 ^ g) (v * 2 ^ h) ≡ round f s (y * 2 ^ g) (1 * 2 ^ h)
+round-sticky f s v x y g h p t l u =
+    let d = size y - prec f in
+    let many : suc (prec f) < size y = lt-of-not-le (λ (n : size y ≤ suc (prec f)). lt-irrefl y (lt-of-lt-of-le (size-lt y) (le-trans (pow-mono n) l))) in
+    let at : (v x : ℕ) → 0 < v → Sticky v x y → round f s (x * 2 ^ g) (v * 2 ^ h) ≡ ofBits f (cond s (top f) 0 + min ((g + low f + d - h) * hid f + closest y (2 ^ d)) (ones f * hid f)) =
+    λ v x p t.
+        round-word f s v x y g h (g + low f + d - h) d p (two-more (size y) (prec f) many) (scales g (low f) d h (two-more (size y) (prec f) many) u) t
+        (subst (λ (a : ℕ). y < 2 ^ a) (whole (size y) (prec f) many) (size-lt y)) (inr (size-reaches y (prec f - 1 + d) (below (size y) (prec f) many (two f)))) in
+    at v x p t ∙ sym (at 1 y (zero-lt-suc 0) (inl (sym (mul-one y))))
+  where
+    two-more : (z p : ℕ) → suc p < z → 2 ≤ z - p
+    two-more z p h = omega arith
+
+    scales : (g l d h : ℕ) → 2 ≤ d → h ≤ g + l + 2 → g + l + d ≡ h + (g + l + d - h)
+    scales g l d h a b = omega arith
+
+    whole : (z p : ℕ) → suc p < z → z ≡ p + (z - p)
+    whole z p h = omega arith
+
+    below : (z p : ℕ) → suc p < z → 2 ≤ p → p - 1 + (z - p) < z
+    below z p h k = omega arith

@@ -1,0 +1,156 @@
+-- The common case: the biased sum, and what its conversion comes to. Assumes nothing.
+use mathlib.Core.Path.{_≡_, refl, sym, ap, ap₂, _∙_, subst}
+use mathlib.Core.Logic.{_⊎_, inl, inr}
+use Prim.Native.Nat.{ℕ, zero, suc, _+_, _-_, _*_, _/_, _%_, _^_, _≤_, _<_}
+use native.Mathlib.Nat.{le-trans, le-add-right, lt-of-le-of-lt, lt-of-lt-of-le, lt-of-mul-lt-mul-right, add-mul, mul-assoc, mul-comm, mul-left-comm, mul-lt-mul-of-pos-right, mod-lt}
+use native.Mathlib.Omega.{arith}
+use mathlib.Core.Bool.{Bool, true, false, not, cond, Bool·beq}
+use lib.Dec.{leb, lit≤}
+use lib.Pow.{pow-add, pow-pos, pow-mono, shl-lt}
+use lib.Ieee.{Float, binary64, unlike, top, round}
+use lib.Ieee as Ieee
+use Rattle.rounding.proofs.Numbers.{sub-mul}
+use Rattle.rounding.proofs.Sums.{sum-same, sum-like, sum-more, sum-less}
+use Rattle.fused.specs.Parts.{field, magnitude, Common, Nonzero, summed}
+use Rattle.fused.proofs.Carry.{mul-lt-pow}
+use Rattle.fused.proofs.Cases.{signs-like, signs-unlike}
+use Rattle.fused.proofs.Unpack.{weight-more, low-lt}
+
+pub picked : (b : Bool) (sh sl dh dl p q h l : ℕ) → h ≡ cond b sh dh → l ≡ cond b sl dl → sh * 2 ^ 64 + sl ≡ p → dh * 2 ^ 64 + dl ≡ q → sl < 2 ^ 64 → dl < 2 ^ 64 → (h * 2 ^ 64 + l ≡ cond b p q) × (l < 2 ^ 64)
+picked true sh sl dh dl p q h l e f u v i j = (ap₂ (λ (a b : ℕ). a * 2 ^ 64 + b) e f ∙ u, subst (λ (a : ℕ). a < 2 ^ 64) (sym f) i)
+picked false sh sl dh dl p q h l e f u v i j = (ap₂ (λ (a b : ℕ). a * 2 ^ 64 + b) e f ∙ v, subst (λ (a : ℕ). a < 2 ^ 64) (sym f) j)
+
+pub high-lt : (h l y k : ℕ) → h * 2 ^ 64 + l ≡ y → y < 2 ^ (k + 64) → h < 2 ^ k
+high-lt h l y k e u = lt-of-mul-lt-mul-right (2 ^ 64) (lt-of-le-of-lt (le-add-right (h * 2 ^ 64) l) (subst (λ (a : ℕ). a < 2 ^ k * 2 ^ 64) (sym e) (subst (λ (a : ℕ). y < a) (pow-add 2 k 64) u)))
+
+-- the significand of a normal float
+pub digits-lt : (x : ℕ) → 2 ^ 52 + x % 2 ^ 52 < 2 ^ 53
+digits-lt x = let l = low-lt x in omega (arith, l)
+
+pub product-lt : (x y : ℕ) → (2 ^ 52 + x % 2 ^ 52) * (2 ^ 52 + y % 2 ^ 52) < 2 ^ 106
+product-lt x y = mul-lt-pow 53 53 (digits-lt x) (digits-lt y)
+
+pub addend-lt : (z n : ℕ) → n ≤ 62 → (2 ^ 52 + z % 2 ^ 52) * 2 ^ n < 2 ^ 115
+addend-lt z n h = lt-of-lt-of-le (shl-lt 53 n (digits-lt z)) (pow-mono (room n h))
+  where
+    room : (n : ℕ) → n ≤ 62 → 53 + n ≤ 115
+    room n h = omega arith
+
+-- the biased sum has a high word of 53 bits
+pub biased-lt : (b : Bool) (p c y : ℕ) → p < 2 ^ 106 → c < 2 ^ 115 → y ≡ cond b (2 ^ 115 + p + c) (2 ^ 115 + p - c) → y < 2 ^ 117
+biased-lt true p c y i j e = omega arith
+biased-lt false p c y i j e = omega arith
+
+-- ---- the sum of the magnitudes, at the product's exponent
+
+products : (a b f g m n : ℕ) → 0 < f → 0 < g → a * 2 ^ (f - 1) ≡ m → b * 2 ^ (g - 1) ≡ n → m * n * 2 ^ 2150 ≡ a * b * 2 ^ (f + g) * 2 ^ 2148
+products a b f g m n p q e h =
+    ap (λ (k : ℕ). k * 2 ^ 2150) (ap₂ (λ (i j : ℕ). i * j) (sym e) (sym h) ∙ four a (2 ^ (f - 1)) b (2 ^ (g - 1)))
+    ∙ mul-assoc (a * b) (2 ^ (f - 1) * 2 ^ (g - 1)) (2 ^ 2150)
+    ∙ ap (λ (k : ℕ). a * b * k)
+    (ap (λ (k : ℕ). k * 2 ^ 2150) (sym (pow-add 2 (f - 1) (g - 1))) ∙ sym (pow-add 2 (f - 1 + (g - 1)) 2150) ∙ ap (λ (k : ℕ). 2 ^ k) (sums f g p q) ∙ pow-add 2 (f + g) 2148)
+    ∙ sym (mul-assoc (a * b) (2 ^ (f + g)) (2 ^ 2148))
+  where
+    four : (a b c d : ℕ) → a * b * (c * d) ≡ a * c * (b * d)
+    four a b c d = simp (mul-assoc, mul-left-comm)
+
+    sums : (f g : ℕ) → 0 < f → 0 < g → f - 1 + (g - 1) + 2150 ≡ f + g + 2148
+    sums f g p q = omega arith
+
+addends : (c f e m : ℕ) → 0 < f → e ≤ f + 1075 → c * 2 ^ (f - 1) ≡ m → m * 2 ^ 1074 * 2 ^ 2150 ≡ c * 2 ^ (f + 1075 - e) * 2 ^ e * 2 ^ 2148
+addends c f e m p q h =
+    ap (λ (k : ℕ). k * 2 ^ 1074 * 2 ^ 2150) (sym h)
+    ∙ three c (2 ^ (f - 1)) (2 ^ 1074) (2 ^ 2150)
+    ∙ ap (λ (k : ℕ). c * k)
+    (joined (f - 1) 1074 2150 ∙ ap (λ (k : ℕ). 2 ^ k) (sums f e p q) ∙ sym (joined (f + 1075 - e) e 2148))
+    ∙ sym (three c (2 ^ (f + 1075 - e)) (2 ^ e) (2 ^ 2148))
+  where
+    three : (a b c d : ℕ) → a * b * c * d ≡ a * (b * c * d)
+    three a b c d = simp mul-assoc
+
+    joined : (i j k : ℕ) → 2 ^ i * 2 ^ j * 2 ^ k ≡ 2 ^ (i + j + k)
+    joined i j k = ap (λ (n : ℕ). n * 2 ^ k) (sym (pow-add 2 i j)) ∙ sym (pow-add 2 (i + j) k)
+
+    sums : (f e : ℕ) → 0 < f → e ≤ f + 1075 → f - 1 + 1074 + 2150 ≡ f + 1075 - e + e + 2148
+    sums f e p q = omega arith
+
+pub normal-fields : (f g h : ℕ) → 600 ≤ f → f < 1500 → 600 ≤ g → g < 1500 → f + g ≤ h + 1075 → h + 1075 < f + g + 63
+    → (0 < f) × (0 < g) × (0 < h) × (h < 2047) × (h + 1075 - (f + g) ≤ 62) × (1200 ≤ f + g) × (f + g < 3000)
+normal-fields f g h a b c d e i = (omega arith, omega arith, omega arith, omega arith, omega arith, omega arith, omega arith)
+
+pub common-fields : (x y z : ℕ) → Common x y z
+    → (0 < field x) × (0 < field y) × (0 < field z) × (field z < 2047) × (field z + 1075 - (field x + field y) ≤ 62) × (1200 ≤ field x + field y) × (field x + field y < 3000)
+common-fields x y z w = normal-fields (field x) (field y) (field z) (w .0) (w .1) (w .2) (w .3) (w .4) (w .5)
+
+pub common-nonzero : (x y z : ℕ) → Common x y z → Nonzero x × Nonzero y × Nonzero z
+common-nonzero x y z w =
+    let k = common-fields x y z w in
+    ((lt-of-lt-of-le (w .1) (lit≤ tt), not-zero x (k .0)), (lt-of-lt-of-le (w .3) (lit≤ tt), not-zero y (k .1)), (k .3, not-zero z (k .2)))
+  where
+    not-zero : (b : ℕ) → 0 < b % 2 ^ 63 / 2 ^ 52 → 0 < b % 2 ^ 63
+    not-zero b h = omega arith
+
+pub at-product : (x y z : ℕ) → Common x y z → summed x y z
+    ≡ Ieee.sum binary64 (unlike (leb (top binary64) x) (leb (top binary64) y)) ((2 ^ 52 + x % 2 ^ 52) * (2 ^ 52 + y % 2 ^ 52) * 2 ^ (field x + field y)) (leb (top binary64) z)
+    ((2 ^ 52 + z % 2 ^ 52) * 2 ^ (field z + 1075 - (field x + field y)) * 2 ^ (field x + field y)) (2 ^ 2150)
+at-product x y z w =
+    let k = common-fields x y z w in
+    sum-same binary64 (unlike (leb (top binary64) x) (leb (top binary64) y)) (magnitude x * magnitude y) (leb (top binary64) z) (magnitude z * 2 ^ 1074) (2 ^ 2148)
+    ((2 ^ 52 + x % 2 ^ 52) * (2 ^ 52 + y % 2 ^ 52) * 2 ^ (field x + field y)) ((2 ^ 52 + z % 2 ^ 52) * 2 ^ (field z + 1075 - (field x + field y)) * 2 ^ (field x + field y)) (2 ^ 2150) (pow-pos 2148) (pow-pos 2150)
+    (products (2 ^ 52 + x % 2 ^ 52) (2 ^ 52 + y % 2 ^ 52) (field x) (field y) (magnitude x) (magnitude y) (k .0) (k .1) (weight-more (field x) (x % 2 ^ 52) (k .0)) (weight-more (field y) (y % 2 ^ 52) (k .1)))
+    (addends (2 ^ 52 + z % 2 ^ 52) (field z) (field x + field y) (magnitude z) (k .2) (w .4) (weight-more (field z) (z % 2 ^ 52) (k .2)))
+
+-- ---- what the conversion comes to
+
+-- what `converted` says of its result
+abbrev pub Converts : Bool → ℕ → ℕ → ℕ → Float → Type 0
+Converts s h l e r = (2 ^ 51 + 4 ≤ h → r ≡ round binary64 s (((h - 2 ^ 51) * 2 ^ 64 + l) * 2 ^ e) (2 ^ 2150)) × (h + 4 ≤ 2 ^ 51 → r ≡ round binary64 (not s) (((2 ^ 51 - h) * 2 ^ 64 - l) * 2 ^ e) (2 ^ 2150))
+
+module _ (s : Bool) (p c h l e : ℕ) (r : Float) (l-lt : l < 2 ^ 64) (k : Converts s h l e r) (far : (2 ^ 51 + 4 ≤ h) ⊎ (h + 4 ≤ 2 ^ 51)) where
+  came-like : h * 2 ^ 64 + l ≡ 2 ^ 115 + p + c → r ≡ Ieee.sum binary64 s (p * 2 ^ e) s (c * 2 ^ e) (2 ^ 2150)
+  came-like y = elim far [
+    | inl g ↦
+        k .0 g
+        ∙ ap (λ (n : ℕ). round binary64 s n (2 ^ 2150)) (ap (λ (n : ℕ). n * 2 ^ e) (off h l p c y g) ∙ add-mul p c (2 ^ e))
+        ∙ sym (sum-like binary64 s (p * 2 ^ e) (c * 2 ^ e) (2 ^ 2150))
+    | inr g ↦ absurd (no h l p c l-lt y g)
+  ]
+    where
+      off : (h l p c : ℕ) → h * 2 ^ 64 + l ≡ 2 ^ 115 + p + c → 2 ^ 51 + 4 ≤ h → (h - 2 ^ 51) * 2 ^ 64 + l ≡ p + c
+      off h l p c y g = omega arith
+
+      no : (h l p c : ℕ) → l < 2 ^ 64 → h * 2 ^ 64 + l ≡ 2 ^ 115 + p + c → h + 4 ≤ 2 ^ 51 → ⊥
+      no h l p c i y g = omega arith
+
+  came-unlike : c ≤ 2 ^ 115 + p → h * 2 ^ 64 + l ≡ 2 ^ 115 + p - c → r ≡ Ieee.sum binary64 s (p * 2 ^ e) (not s) (c * 2 ^ e) (2 ^ 2150)
+  came-unlike i y = elim far [
+    | inl g ↦
+        let m = more h l p c i y g in
+        k .0 g
+        ∙ ap (λ (n : ℕ). round binary64 s n (2 ^ 2150)) (ap (λ (n : ℕ). n * 2 ^ e) (m .0) ∙ sub-mul p c (2 ^ e))
+        ∙ sym (sum-more binary64 s (p * 2 ^ e) (c * 2 ^ e) (2 ^ 2150) (mul-lt-mul-of-pos-right (m .1) (pow-pos e)))
+    | inr g ↦
+        let m = fewer h l p c l-lt i y g in
+        k .1 g
+        ∙ ap (λ (n : ℕ). round binary64 (not s) n (2 ^ 2150)) (ap (λ (n : ℕ). n * 2 ^ e) (m .0) ∙ sub-mul c p (2 ^ e))
+        ∙ sym (sum-less binary64 s (p * 2 ^ e) (c * 2 ^ e) (2 ^ 2150) (mul-lt-mul-of-pos-right (m .1) (pow-pos e)))
+  ]
+    where
+      more : (h l p c : ℕ) → c ≤ 2 ^ 115 + p → h * 2 ^ 64 + l ≡ 2 ^ 115 + p - c → 2 ^ 51 + 4 ≤ h → ((h - 2 ^ 51) * 2 ^ 64 + l ≡ p - c) × (c < p)
+      more h l p c i y g = (omega arith, omega arith)
+
+      fewer : (h l p c : ℕ) → l < 2 ^ 64 → c ≤ 2 ^ 115 + p → h * 2 ^ 64 + l ≡ 2 ^ 115 + p - c → h + 4 ≤ 2 ^ 51 → ((2 ^ 51 - h) * 2 ^ 64 - l ≡ c - p) × (p < c)
+      fewer h l p c j i y g = (omega arith, omega arith)
+
+  pub came : (t : Bool) → c ≤ 2 ^ 115 + p → h * 2 ^ 64 + l ≡ cond (Bool·beq s t) (2 ^ 115 + p + c) (2 ^ 115 + p - c) → r ≡ Ieee.sum binary64 s (p * 2 ^ e) t (c * 2 ^ e) (2 ^ 2150)
+  came t i y = go (Bool·beq s t) refl y
+    where
+      go : (b : Bool) → Bool·beq s t ≡ b → h * 2 ^ 64 + l ≡ cond b (2 ^ 115 + p + c) (2 ^ 115 + p - c) → r ≡ Ieee.sum binary64 s (p * 2 ^ e) t (c * 2 ^ e) (2 ^ 2150)
+      go true q y = subst (λ (u : Bool). r ≡ Ieee.sum binary64 s (p * 2 ^ e) u (c * 2 ^ e) (2 ^ 2150)) (sym (signs-like s t q)) (came-like y)
+      go false q y = subst (λ (u : Bool). r ≡ Ieee.sum binary64 s (p * 2 ^ e) u (c * 2 ^ e) (2 ^ 2150)) (sym (signs-unlike s t q)) (came-unlike i y)
+
+-- the biased sum, by the numbers and not by their words
+pub bias-value : (b : Bool) (ph pl ch cl p c y : ℕ) → ph * 2 ^ 64 + pl ≡ p → ch * 2 ^ 64 + cl ≡ c → y ≡ cond b ((2 ^ 51 + ph) * 2 ^ 64 + pl + (ch * 2 ^ 64 + cl)) ((2 ^ 51 + ph) * 2 ^ 64 + pl - (ch * 2 ^ 64 + cl))
+    → y ≡ cond b (2 ^ 115 + p + c) (2 ^ 115 + p - c)
+bias-value true ph pl ch cl p c y e f g = omega arith
+bias-value false ph pl ch cl p c y e f g = omega arith

@@ -1,0 +1,20 @@
+-- Assumes nothing.
+use mathlib.Core.Path.{_≡_, sym, subst}
+use mathlib.Core.Logic.{inl, inr}
+use Prim.Native.Nat.{_+_, _^_}
+use lib.Dec.{T, leb→le}
+use borrow.Author.Needs.{needs}
+use Rattle.fused.proofs.near.long.Statement.{statement}
+use Rattle.fused.proofs.near.long.Tie as tie
+
+add-if1 : tie.Need-add-if1
+add-if1 c = search needs
+
+returns : tie.Need-returns
+returns c = λ h. inr (c .if1 .taken)
+
+returns-2 : tie.Need-returns-2
+returns-2 c = λ h. inl (leb→le (2 ^ 51 + 4) (c .before .args .high) (subst T (sym h) tt))
+
+pub long-spec : {M : Type 1} → statement M
+long-spec = tie.close (tie.spec add-if1 returns returns-2)

@@ -1,0 +1,131 @@
+// The common case, without a search for the leading bit: both factors are of ordinary size, and the
+// addend's last bit is no lower than the product's and its first not far above the product's. Then
+// product and addend fit two words together with nothing cut off, and the machine's own conversion
+// and addition of floats round the result.
+ghost use mathlib.Core.Path.{_≡_};
+ghost use Prim.Native.Nat.{_+_, _-_, _*_, _^_, _≤_, _<_};
+ghost use mathlib.Core.Logic.{_⊎_};
+ghost use mathlib.Core.Bool.{true, false, not, cond};
+ghost use lib.Ieee as Ieee;
+ghost use lib.Ieee.{binary64};
+ghost use lib.Ieee.Exact.{HasValue};
+ghost use Rattle.fused.specs.Words.{value};
+ghost use Rattle.fused.specs.Parts.{Common, summed};
+use super::words::Words;
+use super::words::marked;
+use super::words::product;
+use super::words::sum;
+use super::words::difference;
+
+// m * 2^n.
+fn lifted(m: u64, n: u64) -> Words
+    requires { ⌜ n < 64 ⌝ }
+    ensures { λ r. ⌜ (value r ≡ m * 2 ^ n) × (r .low < 2 ^ 64) ⌝ }
+{
+    Words { high: (m >> 1) >> (63 - n), low: m << n }
+}
+
+// 2^(field + 51), in units of the smallest float, with the sign.
+fn power(negative: bool, field: u64) -> f64
+    requires { ⌜ (0 < field) × (field < 2047) ⌝ }
+    ensures { λ r. ⌜ HasValue r negative (2 ^ (field + 51)) (2 ^ 1074) ⌝ }
+{
+    if negative {
+        f64::from_bits(0x8000_0000_0000_0000 + field * 0x10_0000_0000_0000)
+    } else {
+        f64::from_bits(field * 0x10_0000_0000_0000)
+    }
+}
+
+// high - 2^51.
+fn unbiased(high: u64) -> f64
+    requires { ⌜ high < 2 ^ 53 ⌝ }
+    ensures { λ r. ⌜ (2 ^ 51 < high → HasValue r false (high - 2 ^ 51) 1) × (high < 2 ^ 51 → HasValue r true (2 ^ 51 - high) 1) ⌝ }
+{
+    (high as i64 - 0x8_0000_0000_0000) as f64
+}
+
+// (high * 2^64 + low - 2^115) * 2^e / 2^2150, rounded, with the sign of the product where the number
+// is positive. Both words are floats, but for the last bits of the low one, which are left to a sticky
+// bit: the sum is the only operation that rounds.
+fn converted(negative: bool, high: u64, low: u64, e: u64) -> f64
+    requires { ⌜ (high < 2 ^ 53) × (1200 ≤ e) × (e < 3000) ⌝ }
+    ensures { λ r. ⌜ (2 ^ 51 + 4 ≤ high → r ≡ Ieee.round binary64 negative (((high - 2 ^ 51) * 2 ^ 64 + low) * 2 ^ e) (2 ^ 2150)) × (high + 4 ≤ 2 ^ 51 → r ≡ Ieee.round binary64 (not negative) (((2 ^ 51 - high) * 2 ^ 64 - low) * 2 ^ e) (2 ^ 2150)) ⌝ }
+{
+    let l = marked(low / 0x800, low % 0x800) as f64;
+    unbiased(high) * power(negative, e - 1063) + l * power(negative, e - 1116)
+}
+
+// Whether the three floats are of the common case, by their exponents' fields.
+pub fn common(x: u64, y: u64, z: u64) -> bool
+    ensures { λ r. ⌜ (r ≡ true → Common x y z) ⌝ }
+{
+    let fx = x % 0x8000_0000_0000_0000 / 0x10_0000_0000_0000;
+    let fy = y % 0x8000_0000_0000_0000 / 0x10_0000_0000_0000;
+    let fz = z % 0x8000_0000_0000_0000 / 0x10_0000_0000_0000;
+    if fx < 600 {
+        return false;
+    }
+    if 1500 <= fx {
+        return false;
+    }
+    if fy < 600 {
+        return false;
+    }
+    if 1500 <= fy {
+        return false;
+    }
+    if fz + 1075 < fx + fy {
+        return false;
+    }
+    fz + 1075 - (fx + fy) < 63
+}
+
+fn pick(first: bool, a: u64, b: u64) -> u64
+    ensures { λ r. ⌜ r ≡ cond first a b ⌝ }
+{
+    if first { a } else { b }
+}
+
+// 2^115 + p + c, or 2^115 + p - c: with 2^51 more in the high word a negative difference is a number
+// of two words too. Both are worked out, since which is wanted is hard to foresee.
+fn biased(like: bool, ph: u64, pl: u64, ch: u64, cl: u64) -> Words
+    requires { ⌜ (ph < 2 ^ 50) × (ch < 2 ^ 51) ⌝ }
+    ensures { λ r. ⌜ (value r ≡ cond like ((2 ^ 51 + ph) * 2 ^ 64 + pl + (ch * 2 ^ 64 + cl)) ((2 ^ 51 + ph) * 2 ^ 64 + pl - (ch * 2 ^ 64 + cl))) × (r .low < 2 ^ 64) ⌝ }
+{
+    let high = 0x8_0000_0000_0000 + ph;
+    let s = sum(high, pl, ch, cl);
+    let d = difference(high, pl, ch, cl);
+    Words { high: pick(like, s.high, d.high), low: pick(like, s.low, d.low) }
+}
+
+// Whether a biased high word stands for a number of four or more, or of minus four or less: then the
+// words hold two bits more than a float does.
+fn long(high: u64) -> bool
+    requires { ⌜ high < 2 ^ 63 ⌝ }
+    ensures { λ r. ⌜ (r ≡ true → (2 ^ 51 + 4 ≤ high) ⊎ (high + 4 ≤ 2 ^ 51)) ⌝ }
+{
+    if high + 4 <= 0x8_0000_0000_0000 {
+        return true;
+    }
+    0x8_0000_0000_0004 <= high
+}
+
+// a * b + c of three floats, by their bits, in the common case.
+pub fn near(x: u64, y: u64, z: u64) -> f64
+    requires { ⌜ Common x y z ⌝ }
+    ensures { λ r. ⌜ r ≡ summed x y z ⌝ }
+{
+    let fx = x % 0x8000_0000_0000_0000 / 0x10_0000_0000_0000;
+    let fy = y % 0x8000_0000_0000_0000 / 0x10_0000_0000_0000;
+    let fz = z % 0x8000_0000_0000_0000 / 0x10_0000_0000_0000;
+    let e = fx + fy;
+    let negative = (0x8000_0000_0000_0000 <= x) != (0x8000_0000_0000_0000 <= y);
+    let p = product(0x10_0000_0000_0000 + x % 0x10_0000_0000_0000, 0x10_0000_0000_0000 + y % 0x10_0000_0000_0000);
+    let c = lifted(0x10_0000_0000_0000 + z % 0x10_0000_0000_0000, fz + 1075 - e);
+    let s = biased(negative == (0x8000_0000_0000_0000 <= z), p.high, p.low, c.high, c.low);
+    if long(s.high) {
+        return converted(negative, s.high, s.low, e);
+    }
+    super::of_bits(x, y, z)
+}
