@@ -188,15 +188,11 @@ magnitudes s u m₁ m₂ m₃ d₁ e₁ d₂ e₂ d₃ e₃ y h o p q r =
 
 -- ---- a finite float by its bits
 
-module _ (x : Float) (fit : T (fits binary64 x)) (fine : finite x ≡ true) where
-  back : ofBits binary64 (toBits binary64 x) ≡ x
-  back = ofBits-toBits binary64 x fit
+pub field-lt : (x : Float) → T (fits binary64 x) → finite x ≡ true → field (toBits binary64 x) < ones binary64
+field-lt x fit fine = finite-field binary64 (toBits binary64 x) (subst T (sym (ap finite (ofBits-toBits binary64 x fit) ∙ fine)) tt)
 
-  pub field-lt : field (toBits binary64 x) < ones binary64
-  field-lt = finite-field binary64 (toBits binary64 x) (subst T (sym (ap finite back ∙ fine)) tt)
-
-  pub float-value : HasValue x (leb (top binary64) (toBits binary64 x)) (magnitude (toBits binary64 x)) (2 ^ 1074)
-  float-value = subst (λ (v : Float). HasValue v (leb (top binary64) (toBits binary64 x)) (magnitude (toBits binary64 x)) (2 ^ 1074)) back (bits-value binary64 (toBits binary64 x) field-lt)
+pub float-value : (x : Float) → T (fits binary64 x) → field (toBits binary64 x) < ones binary64 → HasValue x (leb (top binary64) (toBits binary64 x)) (magnitude (toBits binary64 x)) (2 ^ 1074)
+float-value x fit l = subst (λ (v : Float). HasValue v (leb (top binary64) (toBits binary64 x)) (magnitude (toBits binary64 x)) (2 ^ 1074)) (ofBits-toBits binary64 x fit) (bits-value binary64 (toBits binary64 x) l)
 
 pub magnitude-zero : (b : ℕ) → b % 2 ^ 63 ≡ 0 → magnitude b ≡ 0
 magnitude-zero b h = sym (weight-zero (field b) (b % 2 ^ 52) (none b h)) ∙ low b h

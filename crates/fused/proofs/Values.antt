@@ -4,11 +4,12 @@ use mathlib.Core.Logic.{_⊎_, inl, inr}
 use Prim.Native.Nat.{ℕ, zero, suc, _+_, _-_, _*_, _/_, _%_, _^_, _≤_, _<_}
 use native.Mathlib.Nat.{mul-pos, mul-assoc, mul-comm, mul-left-comm, mul-right-comm, zero-mul, add-zero, sub-zero, eq-of-mul-eq-mul-right}
 use native.Mathlib.Omega.{arith}
-use mathlib.Core.Bool.{Bool, true, false, not, cond, Bool·beq}
+use mathlib.Core.Bool.{Bool, true, false, not, _&&_, _||_, cond, Bool·beq}
 use lib.IntN.{ℤ, pos, negsuc, _+ℤ_}
-use lib.Dec.{T, eqb}
+use lib.Dec.{T, eqb, eqb-refl}
 use lib.Ieee.{Float, nan, inf, fin, Format, binary64, unlike, up, down, round, neg, sum, add, sub, mul, eq, isNan, ofBits}
-use lib.Ieee.Fits.{up-pos, down-pos}
+use lib.Ieee.Bits.{is-true}
+use lib.Ieee.Fits.{and-i, down-pos}
 use lib.Ieee.Exact.{HasValue}
 use lib.Ieee.Scale.{finite}
 use Rattle.rules.specs.Fused.{exactProduct, fused}
@@ -129,38 +130,16 @@ finite-no-nan nan h = absurd (differ (sym h))
 finite-no-nan (inf s) h = tt
 finite-no-nan (fin s m e) h = tt
 
--- ---- a finite sum has finite terms
-
-sum-finite : (f : Format) (x y : Float) → finite (add f x y) ≡ true → (finite x ≡ true) × (finite y ≡ true)
-unfolding add
-sum-finite f nan y h = absurd (differ (sym h))
-sum-finite f (inf s) nan h = absurd (differ (sym h))
-sum-finite f (inf s) (inf t) h = absurd (go (Bool·beq s t) h)
+pub number-test : (x : Float) → eq x x ≡ not (isNan x)
+unfolding eq isNan
+number-test nan = refl
+number-test (inf true) = refl
+number-test (inf false) = refl
+number-test (fin s m e) = is-true (eqb n n && (Bool·beq s s || eqb n 0)) (and-i (eqb n n) (Bool·beq s s || eqb n 0) (eqb-refl n) (alike s))
   where
-    go : (b : Bool) → finite (cond b (inf s) nan) ≡ true → ⊥
-    go true h = differ (sym h)
-    go false h = differ (sym h)
-sum-finite f (inf s) (fin t n d) h = absurd (differ (sym h))
-sum-finite f (fin s m e) nan h = absurd (differ (sym h))
-sum-finite f (fin s m e) (inf t) h = absurd (differ (sym h))
-sum-finite f (fin s m e) (fin t n d) h = (refl, refl)
+    n : ℕ
+    n = m * up e * down e
 
-not-or-infinite : (b s : Bool) → finite (cond b nan (inf s)) ≡ true → ⊥
-not-or-infinite true s h = differ (sym h)
-not-or-infinite false s h = differ (sym h)
-
-product-finite : (f : Format) (x y : Float) → finite (mul f x y) ≡ true → (finite x ≡ true) × (finite y ≡ true)
-unfolding mul
-product-finite f nan y h = absurd (differ (sym h))
-product-finite f (inf s) nan h = absurd (differ (sym h))
-product-finite f (inf s) (inf t) h = absurd (differ (sym h))
-product-finite f (inf s) (fin t n d) h = absurd (not-or-infinite (eqb n 0) (unlike s t) h)
-product-finite f (fin s m e) nan h = absurd (differ (sym h))
-product-finite f (fin s m e) (inf t) h = absurd (not-or-infinite (eqb m 0) (unlike s t) h)
-product-finite f (fin s m e) (fin t n d) h = (refl, refl)
-
-pub all-finite : (f : Format) (x y z : Float) → finite (add f (mul f x y) z) ≡ true → (finite x ≡ true) × (finite y ≡ true) × (finite z ≡ true)
-all-finite f x y z h =
-    let s = sum-finite f (mul f x y) z h in
-    let p = product-finite f x y (s .0) in
-    (p .0, p .1, s .1)
+    alike : (s : Bool) → T (Bool·beq s s || eqb n 0)
+    alike true = tt
+    alike false = tt

@@ -11,7 +11,7 @@ use lib.Ieee.{Float, binary64, unlike, top, round}
 use lib.Ieee as Ieee
 use Rattle.rounding.proofs.Numbers.{sub-mul}
 use Rattle.rounding.proofs.Sums.{sum-same, sum-like, sum-more, sum-less}
-use Rattle.fused.specs.Parts.{field, magnitude, Common, Nonzero, summed}
+use Rattle.fused.specs.Parts.{field, magnitude, Common, Nonzero, summed, Converts}
 use Rattle.fused.proofs.Carry.{mul-lt-pow}
 use Rattle.fused.proofs.Cases.{signs-like, signs-unlike}
 use Rattle.fused.proofs.Unpack.{weight-more, low-lt}
@@ -101,10 +101,6 @@ at-product x y z w =
     (addends (2 ^ 52 + z % 2 ^ 52) (field z) (field x + field y) (magnitude z) (k .2) (w .4) (weight-more (field z) (z % 2 ^ 52) (k .2)))
 
 -- ---- what the conversion comes to
-
--- what `converted` says of its result
-abbrev pub Converts : Bool → ℕ → ℕ → ℕ → Float → Type 0
-Converts s h l e r = (2 ^ 51 + 4 ≤ h → r ≡ round binary64 s (((h - 2 ^ 51) * 2 ^ 64 + l) * 2 ^ e) (2 ^ 2150)) × (h + 4 ≤ 2 ^ 51 → r ≡ round binary64 (not s) (((2 ^ 51 - h) * 2 ^ 64 - l) * 2 ^ e) (2 ^ 2150))
 
 module _ (s : Bool) (p c h l e : ℕ) (r : Float) (l-lt : l < 2 ^ 64) (k : Converts s h l e r) (far : (2 ^ 51 + 4 ≤ h) ⊎ (h + 4 ≤ 2 ^ 51)) where
   came-like : h * 2 ^ 64 + l ≡ 2 ^ 115 + p + c → r ≡ Ieee.sum binary64 s (p * 2 ^ e) s (c * 2 ^ e) (2 ^ 2150)

@@ -1,7 +1,8 @@
 // The fused multiply-add, module 1 of document 01: a * b + c with one rounding, for all operands.
 ghost use mathlib.Core.Path.{_≡_};
 ghost use Prim.Native.Nat.{_*_, _%_, _^_, _≤_, _<_};
-ghost use lib.Ieee.{binary64};
+ghost use mathlib.Core.Bool.{not};
+ghost use lib.Ieee.{binary64, isNan};
 ghost use lib.Ieee.Scale as Scale;
 ghost use Rattle.rules.specs.Fused.{fused};
 ghost use Rattle.fused.specs.Parts.{magnitude, Nonzero, summed};
@@ -95,18 +96,30 @@ fn general(a: f64, b: f64, c: f64) -> f64
     of_bits(x, y, z)
 }
 
+// Not a NaN, so that it has bits to look at.
+fn number(x: f64) -> bool
+    ensures { λ r. ⌜ r ≡ not (isNan x) ⌝ }
+{
+    x == x
+}
+
 // a * b + c with one rounding, as IEEE 754's fusedMultiplyAdd.
-//
-// A finite sum of the rounded product says at once that all three operands are finite.
 pub fn mul_add(a: f64, b: f64, c: f64) -> f64
     ensures { λ r. ⌜ r ≡ fused binary64 a b c ⌝ }
 {
-    if finite(a * b + c) {
-        let x = f64::to_bits(a);
-        let y = f64::to_bits(b);
-        let z = f64::to_bits(c);
-        if near::common(x, y, z) {
-            return near::near(x, y, z);
+    if number(a) {
+        if number(b) {
+            if number(c) {
+                let x = f64::to_bits(a);
+                let y = f64::to_bits(b);
+                let z = f64::to_bits(c);
+                if near::common(x, y, z) {
+                    let s = near::biased_sum(x, y, z);
+                    if near::long(s.high) {
+                        return near::converted(x, y, s.high, s.low);
+                    }
+                }
+            }
         }
     }
     general(a, b, c)

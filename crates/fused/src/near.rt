@@ -6,11 +6,11 @@ ghost use mathlib.Core.Path.{_≡_};
 ghost use Prim.Native.Nat.{_+_, _-_, _*_, _^_, _≤_, _<_};
 ghost use mathlib.Core.Logic.{_⊎_};
 ghost use mathlib.Core.Bool.{true, false, not, cond};
-ghost use lib.Ieee as Ieee;
-ghost use lib.Ieee.{binary64};
+ghost use lib.Dec.{leb};
+ghost use lib.Ieee.{unlike};
 ghost use lib.Ieee.Exact.{HasValue};
 ghost use Rattle.fused.specs.Words.{value};
-ghost use Rattle.fused.specs.Parts.{Common, summed};
+ghost use Rattle.fused.specs.Parts.{field, Common, biasedSum, Converts};
 use super::words::Words;
 use super::words::marked;
 use super::words::product;
@@ -45,17 +45,6 @@ fn unbiased(high: u64) -> f64
     (high as i64 - 0x8_0000_0000_0000) as f64
 }
 
-// (high * 2^64 + low - 2^115) * 2^e / 2^2150, rounded, with the sign of the product where the number
-// is positive. Both words are floats, but for the last bits of the low one, which are left to a sticky
-// bit: the sum is the only operation that rounds.
-fn converted(negative: bool, high: u64, low: u64, e: u64) -> f64
-    requires { ⌜ (high < 2 ^ 53) × (1200 ≤ e) × (e < 3000) ⌝ }
-    ensures { λ r. ⌜ (2 ^ 51 + 4 ≤ high → r ≡ Ieee.round binary64 negative (((high - 2 ^ 51) * 2 ^ 64 + low) * 2 ^ e) (2 ^ 2150)) × (high + 4 ≤ 2 ^ 51 → r ≡ Ieee.round binary64 (not negative) (((2 ^ 51 - high) * 2 ^ 64 - low) * 2 ^ e) (2 ^ 2150)) ⌝ }
-{
-    let l = marked(low / 0x800, low % 0x800) as f64;
-    unbiased(high) * power(negative, e - 1063) + l * power(negative, e - 1116)
-}
-
 // Whether the three floats are of the common case, by their exponents' fields.
 pub fn common(x: u64, y: u64, z: u64) -> bool
     ensures { λ r. ⌜ (r ≡ true → Common x y z) ⌝ }
@@ -75,10 +64,7 @@ pub fn common(x: u64, y: u64, z: u64) -> bool
     if 1500 <= fy {
         return false;
     }
-    if fz + 1075 < fx + fy {
-        return false;
-    }
-    fz + 1075 - (fx + fy) < 63
+    std::num::wrapping_sub_u64(fz + 1075, fx + fy) < 63
 }
 
 fn pick(first: bool, a: u64, b: u64) -> u64
@@ -101,7 +87,7 @@ fn biased(like: bool, ph: u64, pl: u64, ch: u64, cl: u64) -> Words
 
 // Whether a biased high word stands for a number of four or more, or of minus four or less: then the
 // words hold two bits more than a float does.
-fn long(high: u64) -> bool
+pub fn long(high: u64) -> bool
     requires { ⌜ high < 2 ^ 63 ⌝ }
     ensures { λ r. ⌜ (r ≡ true → (2 ^ 51 + 4 ≤ high) ⊎ (high + 4 ≤ 2 ^ 51)) ⌝ }
 {
@@ -111,21 +97,31 @@ fn long(high: u64) -> bool
     0x8_0000_0000_0004 <= high
 }
 
-// a * b + c of three floats, by their bits, in the common case.
-pub fn near(x: u64, y: u64, z: u64) -> f64
+// The product of a and b and c with their signs, and 2^115 more, in the common case, by their bits. The
+// unit is 2^(e - 2150), where e is the sum of the factors' exponents' fields; the sign is the product's.
+pub fn biased_sum(x: u64, y: u64, z: u64) -> Words
     requires { ⌜ Common x y z ⌝ }
-    ensures { λ r. ⌜ r ≡ summed x y z ⌝ }
+    ensures { λ r. ⌜ (value r ≡ biasedSum x y z) × (r .low < 2 ^ 64) × (r .high < 2 ^ 53) ⌝ }
 {
     let fx = x % 0x8000_0000_0000_0000 / 0x10_0000_0000_0000;
     let fy = y % 0x8000_0000_0000_0000 / 0x10_0000_0000_0000;
     let fz = z % 0x8000_0000_0000_0000 / 0x10_0000_0000_0000;
-    let e = fx + fy;
     let negative = (0x8000_0000_0000_0000 <= x) != (0x8000_0000_0000_0000 <= y);
     let p = product(0x10_0000_0000_0000 + x % 0x10_0000_0000_0000, 0x10_0000_0000_0000 + y % 0x10_0000_0000_0000);
-    let c = lifted(0x10_0000_0000_0000 + z % 0x10_0000_0000_0000, fz + 1075 - e);
-    let s = biased(negative == (0x8000_0000_0000_0000 <= z), p.high, p.low, c.high, c.low);
-    if long(s.high) {
-        return converted(negative, s.high, s.low, e);
-    }
-    super::of_bits(x, y, z)
+    let c = lifted(0x10_0000_0000_0000 + z % 0x10_0000_0000_0000, fz + 1075 - (fx + fy));
+    biased(negative == (0x8000_0000_0000_0000 <= z), p.high, p.low, c.high, c.low)
+}
+
+// The float nearest to a biased sum of the product of a and b, by the bits of a and b. Both words are
+// floats, but for the last bits of the low one, which are left to a sticky bit: the sum is the only
+// operation that rounds.
+pub fn converted(x: u64, y: u64, high: u64, low: u64) -> f64
+    requires { ⌜ (high < 2 ^ 53) × (1200 ≤ field x + field y) × (field x + field y < 3000) ⌝ }
+    ensures { λ r. ⌜ Converts (unlike (leb (2 ^ 63) x) (leb (2 ^ 63) y)) high low (field x + field y) r ⌝ }
+{
+    let fx = x % 0x8000_0000_0000_0000 / 0x10_0000_0000_0000;
+    let fy = y % 0x8000_0000_0000_0000 / 0x10_0000_0000_0000;
+    let negative = (0x8000_0000_0000_0000 <= x) != (0x8000_0000_0000_0000 <= y);
+    let l = marked(low / 0x800, low % 0x800) as f64;
+    unbiased(high) * power(negative, fx + fy - 1063) + l * power(negative, fx + fy - 1116)
 }

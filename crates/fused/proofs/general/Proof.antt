@@ -48,27 +48,27 @@ returns-4 : tie.Need-returns-4
 returns-4 c =
     zero-product binary64 (c .before .before .before .before .before .before .before .args .a) (c .before .before .before .before .before .before .before .args .b) (c .before .before .before .before .before .before .before .args .c)
     (leb (top binary64) (toBits binary64 (c .before .before .before .before .before .before .before .args .a))) (magnitude (toBits binary64 (c .before .before .before .before .before .before .before .args .a))) (leb (top binary64) (toBits binary64 (c .before .before .before .before .before .before .before .args .b))) (magnitude (toBits binary64 (c .before .before .before .before .before .before .before .args .b))) (leb (top binary64) (toBits binary64 (c .before .before .before .before .before .before .before .args .c))) (magnitude (toBits binary64 (c .before .before .before .before .before .before .before .args .c))) (2 ^ 1074) (pow-pos 1074)
-    (float-value (c .before .before .before .before .before .before .before .args .a) (subst T (sym (c .before .before .before .before .before .before .before .good .0 .1)) tt) (sym (c .before .before .before .before .before .before .finite .ensures) ∙ c .before .before .before .before .before .if1 .taken))
-    (float-value (c .before .before .before .before .before .before .before .args .b) (subst T (sym (c .before .before .before .before .before .before .before .good .1 .0 .1)) tt) (sym (c .before .before .before .before .finite2 .ensures) ∙ c .before .before .before .if2 .taken))
-    (float-value (c .before .before .before .before .before .before .before .args .c) (subst T (sym (c .before .before .before .before .before .before .before .good .1 .1 .0 .1)) tt) (sym (c .before .before .finite3 .ensures) ∙ c .before .if3 .taken))
+    (float-value (c .before .before .before .before .before .before .before .args .a) (subst T (sym (c .before .before .before .before .before .before .before .good .0 .1)) tt) (field-lt (c .before .before .before .before .before .before .before .args .a) (subst T (sym (c .before .before .before .before .before .before .before .good .0 .1)) tt) (sym (c .before .before .before .before .before .before .finite .ensures) ∙ c .before .before .before .before .before .if1 .taken)))
+    (float-value (c .before .before .before .before .before .before .before .args .b) (subst T (sym (c .before .before .before .before .before .before .before .good .1 .0 .1)) tt) (field-lt (c .before .before .before .before .before .before .before .args .b) (subst T (sym (c .before .before .before .before .before .before .before .good .1 .0 .1)) tt) (sym (c .before .before .before .before .finite2 .ensures) ∙ c .before .before .before .if2 .taken)))
+    (float-value (c .before .before .before .before .before .before .before .args .c) (subst T (sym (c .before .before .before .before .before .before .before .good .1 .1 .0 .1)) tt) (field-lt (c .before .before .before .before .before .before .before .args .c) (subst T (sym (c .before .before .before .before .before .before .before .good .1 .1 .0 .1)) tt) (sym (c .before .before .finite3 .ensures) ∙ c .before .if3 .taken)))
     (ap (λ (n : ℕ). n * (magnitude (toBits binary64 (c .before .before .before .before .before .before .before .args .b)))) (magnitude-zero (toBits binary64 (c .before .before .before .before .before .before .before .args .a)) (c .if4 .taken)) ∙ zero-mul (magnitude (toBits binary64 (c .before .before .before .before .before .before .before .args .b))))
 
 returns-5 : tie.Need-returns-5
 returns-5 c =
     zero-product binary64 (c .before .before .before .before .before .before .before .before .args .a) (c .before .before .before .before .before .before .before .before .args .b) (c .before .before .before .before .before .before .before .before .args .c)
     (leb (top binary64) (toBits binary64 (c .before .before .before .before .before .before .before .before .args .a))) (magnitude (toBits binary64 (c .before .before .before .before .before .before .before .before .args .a))) (leb (top binary64) (toBits binary64 (c .before .before .before .before .before .before .before .before .args .b))) (magnitude (toBits binary64 (c .before .before .before .before .before .before .before .before .args .b))) (leb (top binary64) (toBits binary64 (c .before .before .before .before .before .before .before .before .args .c))) (magnitude (toBits binary64 (c .before .before .before .before .before .before .before .before .args .c))) (2 ^ 1074) (pow-pos 1074)
-    (float-value (c .before .before .before .before .before .before .before .before .args .a) (subst T (sym (c .before .before .before .before .before .before .before .before .good .0 .1)) tt) (sym (c .before .before .before .before .before .before .before .finite .ensures) ∙ c .before .before .before .before .before .before .if1 .taken))
-    (float-value (c .before .before .before .before .before .before .before .before .args .b) (subst T (sym (c .before .before .before .before .before .before .before .before .good .1 .0 .1)) tt) (sym (c .before .before .before .before .before .finite2 .ensures) ∙ c .before .before .before .before .if2 .taken))
-    (float-value (c .before .before .before .before .before .before .before .before .args .c) (subst T (sym (c .before .before .before .before .before .before .before .before .good .1 .1 .0 .1)) tt) (sym (c .before .before .before .finite3 .ensures) ∙ c .before .before .if3 .taken))
+    (float-value (c .before .before .before .before .before .before .before .before .args .a) (subst T (sym (c .before .before .before .before .before .before .before .before .good .0 .1)) tt) (field-lt (c .before .before .before .before .before .before .before .before .args .a) (subst T (sym (c .before .before .before .before .before .before .before .before .good .0 .1)) tt) (sym (c .before .before .before .before .before .before .before .finite .ensures) ∙ c .before .before .before .before .before .before .if1 .taken)))
+    (float-value (c .before .before .before .before .before .before .before .before .args .b) (subst T (sym (c .before .before .before .before .before .before .before .before .good .1 .0 .1)) tt) (field-lt (c .before .before .before .before .before .before .before .before .args .b) (subst T (sym (c .before .before .before .before .before .before .before .before .good .1 .0 .1)) tt) (sym (c .before .before .before .before .before .finite2 .ensures) ∙ c .before .before .before .before .if2 .taken)))
+    (float-value (c .before .before .before .before .before .before .before .before .args .c) (subst T (sym (c .before .before .before .before .before .before .before .before .good .1 .1 .0 .1)) tt) (field-lt (c .before .before .before .before .before .before .before .before .args .c) (subst T (sym (c .before .before .before .before .before .before .before .before .good .1 .1 .0 .1)) tt) (sym (c .before .before .before .finite3 .ensures) ∙ c .before .before .if3 .taken)))
     (ap (λ (n : ℕ). (magnitude (toBits binary64 (c .before .before .before .before .before .before .before .before .args .a))) * n) (magnitude-zero (toBits binary64 (c .before .before .before .before .before .before .before .before .args .b)) (c .if5 .taken)) ∙ mul-zero (magnitude (toBits binary64 (c .before .before .before .before .before .before .before .before .args .a))))
 
 returns-6 : tie.Need-returns-6
 returns-6 c =
     zero-addend binary64 (c .before .before .before .before .before .before .before .before .before .args .a) (c .before .before .before .before .before .before .before .before .before .args .b) (c .before .before .before .before .before .before .before .before .before .args .c)
     (leb (top binary64) (toBits binary64 (c .before .before .before .before .before .before .before .before .before .args .a))) (magnitude (toBits binary64 (c .before .before .before .before .before .before .before .before .before .args .a))) (leb (top binary64) (toBits binary64 (c .before .before .before .before .before .before .before .before .before .args .b))) (magnitude (toBits binary64 (c .before .before .before .before .before .before .before .before .before .args .b))) (leb (top binary64) (toBits binary64 (c .before .before .before .before .before .before .before .before .before .args .c))) (magnitude (toBits binary64 (c .before .before .before .before .before .before .before .before .before .args .c))) (2 ^ 1074) (pow-pos 1074)
-    (float-value (c .before .before .before .before .before .before .before .before .before .args .a) (subst T (sym (c .before .before .before .before .before .before .before .before .before .good .0 .1)) tt) (sym (c .before .before .before .before .before .before .before .before .finite .ensures) ∙ c .before .before .before .before .before .before .before .if1 .taken))
-    (float-value (c .before .before .before .before .before .before .before .before .before .args .b) (subst T (sym (c .before .before .before .before .before .before .before .before .before .good .1 .0 .1)) tt) (sym (c .before .before .before .before .before .before .finite2 .ensures) ∙ c .before .before .before .before .before .if2 .taken))
-    (float-value (c .before .before .before .before .before .before .before .before .before .args .c) (subst T (sym (c .before .before .before .before .before .before .before .before .before .good .1 .1 .0 .1)) tt) (sym (c .before .before .before .before .finite3 .ensures) ∙ c .before .before .before .if3 .taken))
+    (float-value (c .before .before .before .before .before .before .before .before .before .args .a) (subst T (sym (c .before .before .before .before .before .before .before .before .before .good .0 .1)) tt) (field-lt (c .before .before .before .before .before .before .before .before .before .args .a) (subst T (sym (c .before .before .before .before .before .before .before .before .before .good .0 .1)) tt) (sym (c .before .before .before .before .before .before .before .before .finite .ensures) ∙ c .before .before .before .before .before .before .before .if1 .taken)))
+    (float-value (c .before .before .before .before .before .before .before .before .before .args .b) (subst T (sym (c .before .before .before .before .before .before .before .before .before .good .1 .0 .1)) tt) (field-lt (c .before .before .before .before .before .before .before .before .before .args .b) (subst T (sym (c .before .before .before .before .before .before .before .before .before .good .1 .0 .1)) tt) (sym (c .before .before .before .before .before .before .finite2 .ensures) ∙ c .before .before .before .before .before .if2 .taken)))
+    (float-value (c .before .before .before .before .before .before .before .before .before .args .c) (subst T (sym (c .before .before .before .before .before .before .before .before .before .good .1 .1 .0 .1)) tt) (field-lt (c .before .before .before .before .before .before .before .before .before .args .c) (subst T (sym (c .before .before .before .before .before .before .before .before .before .good .1 .1 .0 .1)) tt) (sym (c .before .before .before .before .finite3 .ensures) ∙ c .before .before .before .if3 .taken)))
     (mul-pos (magnitude-pos (toBits binary64 (c .before .before .before .before .before .before .before .before .before .args .a)) (positive (c .before .before .if4 .left))) (magnitude-pos (toBits binary64 (c .before .before .before .before .before .before .before .before .before .args .b)) (positive (c .before .if5 .left)))) (magnitude-zero (toBits binary64 (c .before .before .before .before .before .before .before .before .before .args .c)) (c .if6 .taken))
 
 of-bits-requires : tie.Need-of-bits-requires
@@ -82,9 +82,9 @@ returns-7 c =
     c .of-bits .ensures
     ∙ sym (fused-values binary64 (c .before .before .before .before .before .before .before .before .before .before .args .a) (c .before .before .before .before .before .before .before .before .before .before .args .b) (c .before .before .before .before .before .before .before .before .before .before .args .c)
     (leb (top binary64) (toBits binary64 (c .before .before .before .before .before .before .before .before .before .before .args .a))) (magnitude (toBits binary64 (c .before .before .before .before .before .before .before .before .before .before .args .a))) (leb (top binary64) (toBits binary64 (c .before .before .before .before .before .before .before .before .before .before .args .b))) (magnitude (toBits binary64 (c .before .before .before .before .before .before .before .before .before .before .args .b))) (leb (top binary64) (toBits binary64 (c .before .before .before .before .before .before .before .before .before .before .args .c))) (magnitude (toBits binary64 (c .before .before .before .before .before .before .before .before .before .before .args .c))) (2 ^ 1074) (pow-pos 1074)
-    (float-value (c .before .before .before .before .before .before .before .before .before .before .args .a) (subst T (sym (c .before .before .before .before .before .before .before .before .before .before .good .0 .1)) tt) (sym (c .before .before .before .before .before .before .before .before .before .finite .ensures) ∙ c .before .before .before .before .before .before .before .before .if1 .taken))
-    (float-value (c .before .before .before .before .before .before .before .before .before .before .args .b) (subst T (sym (c .before .before .before .before .before .before .before .before .before .before .good .1 .0 .1)) tt) (sym (c .before .before .before .before .before .before .before .finite2 .ensures) ∙ c .before .before .before .before .before .before .if2 .taken))
-    (float-value (c .before .before .before .before .before .before .before .before .before .before .args .c) (subst T (sym (c .before .before .before .before .before .before .before .before .before .before .good .1 .1 .0 .1)) tt) (sym (c .before .before .before .before .before .finite3 .ensures) ∙ c .before .before .before .before .if3 .taken)))
+    (float-value (c .before .before .before .before .before .before .before .before .before .before .args .a) (subst T (sym (c .before .before .before .before .before .before .before .before .before .before .good .0 .1)) tt) (field-lt (c .before .before .before .before .before .before .before .before .before .before .args .a) (subst T (sym (c .before .before .before .before .before .before .before .before .before .before .good .0 .1)) tt) (sym (c .before .before .before .before .before .before .before .before .before .finite .ensures) ∙ c .before .before .before .before .before .before .before .before .if1 .taken)))
+    (float-value (c .before .before .before .before .before .before .before .before .before .before .args .b) (subst T (sym (c .before .before .before .before .before .before .before .before .before .before .good .1 .0 .1)) tt) (field-lt (c .before .before .before .before .before .before .before .before .before .before .args .b) (subst T (sym (c .before .before .before .before .before .before .before .before .before .before .good .1 .0 .1)) tt) (sym (c .before .before .before .before .before .before .before .finite2 .ensures) ∙ c .before .before .before .before .before .before .if2 .taken)))
+    (float-value (c .before .before .before .before .before .before .before .before .before .before .args .c) (subst T (sym (c .before .before .before .before .before .before .before .before .before .before .good .1 .1 .0 .1)) tt) (field-lt (c .before .before .before .before .before .before .before .before .before .before .args .c) (subst T (sym (c .before .before .before .before .before .before .before .before .before .before .good .1 .1 .0 .1)) tt) (sym (c .before .before .before .before .before .finite3 .ensures) ∙ c .before .before .before .before .if3 .taken))))
 
 pub general-spec : {M : Type 1} → statement M
 general-spec =

@@ -1,41 +1,62 @@
--- In the common case the bits have all that the definition asks of the operands (`fused-values`). Assumes nothing.
+-- In the common case the words converted are the sum of the magnitudes (`came`, `at-product`), which is what the definition asks of the operands (`fused-values`). Assumes nothing.
 use mathlib.Core.Path.{_≡_, sym, _∙_, subst}
-use Prim.Native.Nat.{_^_}
-use lib.Dec.{T, leb}
+use Prim.Native.Nat.{_+_, _-_, _*_, _%_, _^_}
+use native.Mathlib.Nat.{le-of-lt, le-trans, le-add-right, lt-of-lt-of-le}
+use mathlib.Core.Bool.{Bool, true}
+use lib.Dec.{T, leb, lit≤}
 use lib.Pow.{pow-pos}
-use lib.Ieee.{binary64, top, toBits}
+use lib.Ieee.{binary64, unlike, top, toBits}
 use borrow.Author.Needs.{needs}
-use Rattle.fused.specs.Parts.{magnitude}
+use Rattle.fused.specs.Parts.{field, magnitude}
 use Rattle.fused.proofs.Unpack.{float-value}
-use Rattle.fused.proofs.Values.{fused-values, finite-no-nan, all-finite}
+use Rattle.fused.proofs.Values.{fused-values}
+use Rattle.fused.proofs.Window.{common-fields, common-nonzero, addend-lt, at-product, came}
 use Rattle.fused.proofs.mul_add.Statement.{statement}
 use Rattle.fused.proofs.mul_add.Tie as tie
 
-finite-requires : tie.Need-finite-requires
-finite-requires c κs = search needs
+is-number : {b : Bool} → b ≡ true → T b
+is-number h = subst T (sym h) tt
+
+number-requires : tie.Need-number-requires
+number-requires c κs = search needs
+
+number-requires-2 : tie.Need-number-requires-2
+number-requires-2 c κs = search needs
+
+number-requires-3 : tie.Need-number-requires-3
+number-requires-3 c κs = search needs
 
 float-to-bits-x : tie.Need-float-to-bits-x
-float-to-bits-x c = finite-no-nan (c .before .before .args .a) (all-finite binary64 (c .before .before .args .a) (c .before .before .args .b) (c .before .before .args .c) (sym (c .before .finite .ensures) ∙ c .if1 .taken) .0)
+float-to-bits-x c = (is-number (sym (c .before .before .before .before .before .number .ensures) ∙ c .before .before .before .before .if1 .taken))
 
 float-to-bits-y : tie.Need-float-to-bits-y
-float-to-bits-y c = finite-no-nan (c .before .before .args .b) (all-finite binary64 (c .before .before .args .a) (c .before .before .args .b) (c .before .before .args .c) (sym (c .before .finite .ensures) ∙ c .if1 .taken) .1)
+float-to-bits-y c = (is-number (sym (c .before .before .before .number2 .ensures) ∙ c .before .before .if2 .taken))
 
 float-to-bits-z : tie.Need-float-to-bits-z
-float-to-bits-z c = finite-no-nan (c .before .before .args .c) (all-finite binary64 (c .before .before .args .a) (c .before .before .args .b) (c .before .before .args .c) (sym (c .before .finite .ensures) ∙ c .if1 .taken) .2)
+float-to-bits-z c = (is-number (sym (c .before .number3 .ensures) ∙ c .if3 .taken))
 
 common-requires : tie.Need-common-requires
 common-requires c κs = search needs
 
-near-requires : tie.Need-near-requires
-near-requires c κs = c .before .common .ensures (c .if2 .taken)
+biased-sum-requires : tie.Need-biased-sum-requires
+biased-sum-requires c κs = c .before .common .ensures (c .if4 .taken)
+
+long-requires : tie.Need-long-requires
+long-requires c κs = lt-of-lt-of-le (c .biased-sum .ensures .2) (lit≤ tt)
+
+converted-requires : tie.Need-converted-requires
+converted-requires c κs = (c .before .before .biased-sum .ensures .2, (common-fields (toBits binary64 (c .before .before .before .before .before .before .before .before .before .before .before .args .a)) (toBits binary64 (c .before .before .before .before .before .before .before .before .before .before .before .args .b)) (toBits binary64 (c .before .before .before .before .before .before .before .before .before .before .before .args .c)) (c .before .before .before .before .common .ensures (c .before .before .before .if4 .taken))) .5, (common-fields (toBits binary64 (c .before .before .before .before .before .before .before .before .before .before .before .args .a)) (toBits binary64 (c .before .before .before .before .before .before .before .before .before .before .before .args .b)) (toBits binary64 (c .before .before .before .before .before .before .before .before .before .before .before .args .c)) (c .before .before .before .before .common .ensures (c .before .before .before .if4 .taken))) .6)
 
 returns : tie.Need-returns
 returns c =
-    c .near .ensures
-    ∙ sym (fused-values binary64 (c .before .before .before .before .before .args .a) (c .before .before .before .before .before .args .b) (c .before .before .before .before .before .args .c) (leb (top binary64) (toBits binary64 (c .before .before .before .before .before .args .a))) (magnitude (toBits binary64 (c .before .before .before .before .before .args .a))) (leb (top binary64) (toBits binary64 (c .before .before .before .before .before .args .b))) (magnitude (toBits binary64 (c .before .before .before .before .before .args .b))) (leb (top binary64) (toBits binary64 (c .before .before .before .before .before .args .c))) (magnitude (toBits binary64 (c .before .before .before .before .before .args .c))) (2 ^ 1074) (pow-pos 1074)
-    (float-value (c .before .before .before .before .before .args .a) (subst T (sym (c .before .before .before .before .before .good .0 .1)) tt) (all-finite binary64 (c .before .before .before .before .before .args .a) (c .before .before .before .before .before .args .b) (c .before .before .before .before .before .args .c) (sym (c .before .before .before .before .finite .ensures) ∙ c .before .before .before .if1 .taken) .0))
-    (float-value (c .before .before .before .before .before .args .b) (subst T (sym (c .before .before .before .before .before .good .1 .0 .1)) tt) (all-finite binary64 (c .before .before .before .before .before .args .a) (c .before .before .before .before .before .args .b) (c .before .before .before .before .before .args .c) (sym (c .before .before .before .before .finite .ensures) ∙ c .before .before .before .if1 .taken) .1))
-    (float-value (c .before .before .before .before .before .args .c) (subst T (sym (c .before .before .before .before .before .good .1 .1 .0 .1)) tt) (all-finite binary64 (c .before .before .before .before .before .args .a) (c .before .before .before .before .before .args .b) (c .before .before .before .before .before .args .c) (sym (c .before .before .before .before .finite .ensures) ∙ c .before .before .before .if1 .taken) .2)))
+    came (unlike (leb (top binary64) (toBits binary64 (c .before .before .before .before .before .before .before .before .before .before .before .before .args .a))) (leb (top binary64) (toBits binary64 (c .before .before .before .before .before .before .before .before .before .before .before .before .args .b)))) ((2 ^ 52 + (toBits binary64 (c .before .before .before .before .before .before .before .before .before .before .before .before .args .a)) % 2 ^ 52) * (2 ^ 52 + (toBits binary64 (c .before .before .before .before .before .before .before .before .before .before .before .before .args .b)) % 2 ^ 52)) ((2 ^ 52 + (toBits binary64 (c .before .before .before .before .before .before .before .before .before .before .before .before .args .c)) % 2 ^ 52) * 2 ^ (field (toBits binary64 (c .before .before .before .before .before .before .before .before .before .before .before .before .args .c)) + 1075 - (field (toBits binary64 (c .before .before .before .before .before .before .before .before .before .before .before .before .args .a)) + field (toBits binary64 (c .before .before .before .before .before .before .before .before .before .before .before .before .args .b))))) (c .before .before .before .biased-sum .result .high) (c .before .before .before .biased-sum .result .low) (field (toBits binary64 (c .before .before .before .before .before .before .before .before .before .before .before .before .args .a)) + field (toBits binary64 (c .before .before .before .before .before .before .before .before .before .before .before .before .args .b))) (c .converted .result)
+    (c .before .before .before .biased-sum .ensures .1) (c .converted .ensures) (c .before .before .long .ensures (c .before .if5 .taken)) (leb (top binary64) (toBits binary64 (c .before .before .before .before .before .before .before .before .before .before .before .before .args .c)))
+    (le-trans (le-of-lt (addend-lt (toBits binary64 (c .before .before .before .before .before .before .before .before .before .before .before .before .args .c)) (field (toBits binary64 (c .before .before .before .before .before .before .before .before .before .before .before .before .args .c)) + 1075 - (field (toBits binary64 (c .before .before .before .before .before .before .before .before .before .before .before .before .args .a)) + field (toBits binary64 (c .before .before .before .before .before .before .before .before .before .before .before .before .args .b)))) ((common-fields (toBits binary64 (c .before .before .before .before .before .before .before .before .before .before .before .before .args .a)) (toBits binary64 (c .before .before .before .before .before .before .before .before .before .before .before .before .args .b)) (toBits binary64 (c .before .before .before .before .before .before .before .before .before .before .before .before .args .c)) (c .before .before .before .before .before .common .ensures (c .before .before .before .before .if4 .taken))) .4))) (le-add-right (2 ^ 115) ((2 ^ 52 + (toBits binary64 (c .before .before .before .before .before .before .before .before .before .before .before .before .args .a)) % 2 ^ 52) * (2 ^ 52 + (toBits binary64 (c .before .before .before .before .before .before .before .before .before .before .before .before .args .b)) % 2 ^ 52)))) (c .before .before .before .biased-sum .ensures .0)
+    ∙ sym (at-product (toBits binary64 (c .before .before .before .before .before .before .before .before .before .before .before .before .args .a)) (toBits binary64 (c .before .before .before .before .before .before .before .before .before .before .before .before .args .b)) (toBits binary64 (c .before .before .before .before .before .before .before .before .before .before .before .before .args .c)) (c .before .before .before .before .before .common .ensures (c .before .before .before .before .if4 .taken)))
+    ∙ sym (fused-values binary64 (c .before .before .before .before .before .before .before .before .before .before .before .before .args .a) (c .before .before .before .before .before .before .before .before .before .before .before .before .args .b) (c .before .before .before .before .before .before .before .before .before .before .before .before .args .c) (leb (top binary64) (toBits binary64 (c .before .before .before .before .before .before .before .before .before .before .before .before .args .a))) (magnitude (toBits binary64 (c .before .before .before .before .before .before .before .before .before .before .before .before .args .a))) (leb (top binary64) (toBits binary64 (c .before .before .before .before .before .before .before .before .before .before .before .before .args .b))) (magnitude (toBits binary64 (c .before .before .before .before .before .before .before .before .before .before .before .before .args .b))) (leb (top binary64) (toBits binary64 (c .before .before .before .before .before .before .before .before .before .before .before .before .args .c))) (magnitude (toBits binary64 (c .before .before .before .before .before .before .before .before .before .before .before .before .args .c))) (2 ^ 1074) (pow-pos 1074)
+    (float-value (c .before .before .before .before .before .before .before .before .before .before .before .before .args .a) (subst T (sym (c .before .before .before .before .before .before .before .before .before .before .before .before .good .0 .1)) tt) (common-nonzero (toBits binary64 (c .before .before .before .before .before .before .before .before .before .before .before .before .args .a)) (toBits binary64 (c .before .before .before .before .before .before .before .before .before .before .before .before .args .b)) (toBits binary64 (c .before .before .before .before .before .before .before .before .before .before .before .before .args .c)) (c .before .before .before .before .before .common .ensures (c .before .before .before .before .if4 .taken)) .0 .0))
+    (float-value (c .before .before .before .before .before .before .before .before .before .before .before .before .args .b) (subst T (sym (c .before .before .before .before .before .before .before .before .before .before .before .before .good .1 .0 .1)) tt) (common-nonzero (toBits binary64 (c .before .before .before .before .before .before .before .before .before .before .before .before .args .a)) (toBits binary64 (c .before .before .before .before .before .before .before .before .before .before .before .before .args .b)) (toBits binary64 (c .before .before .before .before .before .before .before .before .before .before .before .before .args .c)) (c .before .before .before .before .before .common .ensures (c .before .before .before .before .if4 .taken)) .1 .0))
+    (float-value (c .before .before .before .before .before .before .before .before .before .before .before .before .args .c) (subst T (sym (c .before .before .before .before .before .before .before .before .before .before .before .before .good .1 .1 .0 .1)) tt) (common-nonzero (toBits binary64 (c .before .before .before .before .before .before .before .before .before .before .before .before .args .a)) (toBits binary64 (c .before .before .before .before .before .before .before .before .before .before .before .before .args .b)) (toBits binary64 (c .before .before .before .before .before .before .before .before .before .before .before .before .args .c)) (c .before .before .before .before .before .common .ensures (c .before .before .before .before .if4 .taken)) .2 .0)))
 
 general-requires : tie.Need-general-requires
 general-requires c κs = search needs
@@ -47,12 +68,16 @@ pub mul-add-spec : {M : Type 1} → statement M
 mul-add-spec =
     tie.close
     (tie.spec
-    finite-requires
+    number-requires
+    number-requires-2
+    number-requires-3
     float-to-bits-x
     float-to-bits-y
     float-to-bits-z
     common-requires
-    near-requires
+    biased-sum-requires
+    long-requires
+    converted-requires
     returns
     general-requires
     returns-2)

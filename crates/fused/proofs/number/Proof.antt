@@ -1,0 +1,10 @@
+-- Assumes nothing.
+use Rattle.fused.proofs.Values.{number-test}
+use Rattle.fused.proofs.number.Statement.{statement}
+use Rattle.fused.proofs.number.Tie as tie
+
+returns : tie.Need-returns
+returns c = number-test (c .args .x)
+
+pub number-spec : {M : Type 1} → statement M
+number-spec = tie.close (tie.spec returns)
