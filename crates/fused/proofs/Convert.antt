@@ -122,7 +122,7 @@ pub low-value : (j : ℕ) → j < 2 ^ 53 → HasValue (ofInt binary64 (pos j)) f
 low-value j l = unfold ofInt in round-whole binary64 false j (le-of-lt l)
 
 module _ (s : Bool) (h l j e : ℕ) (u p q : Float) (h-lt : h < 2 ^ 53) (h-ge : 4 ≤ h) (j-lt : j < 2 ^ 53) (t : Sticky (2 ^ 11) l j) (e-ge : 1200 ≤ e) (e-lt : e < 3000)
-  (pv : HasValue p s (2 ^ (e - 1063 + 51)) (2 ^ 1074)) (qv : HasValue q s (2 ^ (e - 1116 + 51)) (2 ^ 1074)) where
+    (pv : HasValue p s (2 ^ (e - 1063 + 51)) (2 ^ 1074)) (qv : HasValue q s (2 ^ (e - 1116 + 51)) (2 ^ 1074)) where
   -- both products are exact
   in-range : (n i : ℕ) → n < 2 ^ 53 → i < 2000 → n * 2 ^ i < 2 ^ 2098
   in-range n i a b = lt-of-lt-of-le (shl-lt 53 i a) (pow-mono (room i b))

@@ -126,9 +126,10 @@ zeros-lt h p q = let t = leading-top 64 h p q in under (t .0) (leadingZeros 64 h
 pub normalized : (h : ℕ) → 0 < h → h < 2 ^ 64 → (2 ^ 63 ≤ h * 2 ^ leadingZeros 64 h) × (h * 2 ^ leadingZeros 64 h < 2 ^ 64)
 normalized h p q =
     let t = leading-top 64 h p q in
-    let z = leadingZeros 64 h in
-    (le-trans (le-of-eq (ap (λ (a : ℕ). 2 ^ a) (sym (front (t .0) z (t .1))) ∙ pow-add 2 (t .0) z)) (mul-le-mul-right (2 ^ z) (t .2)),
-     subst (λ (a : ℕ). h * 2 ^ z < 2 ^ a) (back (t .0) z (t .1)) (shl-lt (suc (t .0)) z (t .3)))
+    let z = leadingZeros 64 h in (
+      le-trans (le-of-eq (ap (λ (a : ℕ). 2 ^ a) (sym (front (t .0) z (t .1))) ∙ pow-add 2 (t .0) z)) (mul-le-mul-right (2 ^ z) (t .2)),
+      subst (λ (a : ℕ). h * 2 ^ z < 2 ^ a) (back (t .0) z (t .1)) (shl-lt (suc (t .0)) z (t .3)),
+    )
   where
     front : (k s : ℕ) → s + suc k ≡ 64 → k + s ≡ 63
     front k s e = omega arith

@@ -70,12 +70,13 @@ module _ (l : ℕ) (l-pos : 0 < l) (l-lt : l < 2 ^ 52) where
 
   pub subnormal : Unpacked l (l * 2 ^ (leadingZeros 64 l - 1) % 2 ^ 64) (63 - leadingZeros 64 l)
   subnormal =
-      subst (λ (d : ℕ). Unpacked l d (63 - leadingZeros 64 l)) (sym whole)
-      (mul-assoc l (2 ^ (leadingZeros 64 l - 1)) (2 ^ (63 - leadingZeros 64 l)) ∙ ap (λ (k : ℕ). l * k) (sym (pow-add 2 (leadingZeros 64 l - 1) (63 - leadingZeros 64 l)) ∙ ap (λ (k : ℕ). 2 ^ k) (sums (leadingZeros 64 l) zeros-over zeros-under)),
-       half .0,
-       half .1,
-       even (leadingZeros 64 l) zeros-over,
-       small (leadingZeros 64 l))
+      subst (λ (d : ℕ). Unpacked l d (63 - leadingZeros 64 l)) (sym whole) (
+        mul-assoc l (2 ^ (leadingZeros 64 l - 1)) (2 ^ (63 - leadingZeros 64 l)) ∙ ap (λ (k : ℕ). l * k) (sym (pow-add 2 (leadingZeros 64 l - 1) (63 - leadingZeros 64 l)) ∙ ap (λ (k : ℕ). 2 ^ k) (sums (leadingZeros 64 l) zeros-over zeros-under)),
+        half .0,
+        half .1,
+        even (leadingZeros 64 l) zeros-over,
+        small (leadingZeros 64 l),
+      )
     where
       sums : (z : ℕ) → 2 ≤ z → z < 64 → z - 1 + (63 - z) ≡ 62
       sums z a b = omega arith
@@ -159,10 +160,11 @@ lifted d e = omega arith
 
 pub addend-placed : (d : ℕ) → 2 ^ 62 ≤ d → d < 2 ^ 63 → d % 2 ≡ 0 → Placed (d / 2 * 2 ^ 64 + 0)
 addend-placed d p q e =
-    subst Placed (sym (lifted d e))
-    (le-trans (lit≤ {m = 2 ^ 124} {n = 2 ^ 62 * 2 ^ 63} tt) (mul-le-mul-right (2 ^ 63) p),
-     mul-lt-mul-of-pos-right q (pow-pos 63),
-     ap (λ (k : ℕ). k % 4) (sym (mul-assoc d (2 ^ 61) 4)) ∙ mul-mod-left (d * 2 ^ 61) 4)
+    subst Placed (sym (lifted d e)) (
+      le-trans (lit≤ {m = 2 ^ 124} {n = 2 ^ 62 * 2 ^ 63} tt) (mul-le-mul-right (2 ^ 63) p),
+      mul-lt-mul-of-pos-right q (pow-pos 63),
+      ap (λ (k : ℕ). k % 4) (sym (mul-assoc d (2 ^ 61) 4)) ∙ mul-mod-left (d * 2 ^ 61) 4,
+    )
 
 -- ---- the sum of the unpacked numbers is the sum of the magnitudes
 

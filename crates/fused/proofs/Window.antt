@@ -2,7 +2,7 @@
 use mathlib.Core.Path.{_≡_, refl, sym, ap, ap₂, _∙_, subst}
 use mathlib.Core.Logic.{_⊎_, inl, inr}
 use Prim.Native.Nat.{ℕ, zero, suc, _+_, _-_, _*_, _/_, _%_, _^_, _≤_, _<_}
-use native.Mathlib.Nat.{le-trans, le-add-right, lt-of-le-of-lt, lt-of-lt-of-le, lt-of-mul-lt-mul-right, add-mul, mul-assoc, mul-comm, mul-left-comm, mul-lt-mul-of-pos-right, mod-lt}
+use native.Mathlib.Nat.{le-trans, le-add-right, lt-of-le-of-lt, lt-of-lt-of-le, lt-of-mul-lt-mul-right, add-mul, mul-assoc, mul-comm, mul-left-comm, mul-lt-mul-of-pos-right, mod-eq-of-lt}
 use native.Mathlib.Omega.{arith}
 use mathlib.Core.Bool.{Bool, true, false, not, cond, Bool·beq}
 use lib.Dec.{leb, lit≤}
@@ -90,15 +90,16 @@ common-nonzero x y z w =
     not-zero : (b : ℕ) → 0 < b % 2 ^ 63 / 2 ^ 52 → 0 < b % 2 ^ 63
     not-zero b h = omega arith
 
-pub at-product : (x y z : ℕ) → Common x y z → summed x y z
+pub at-product : (x y z n : ℕ) → Common x y z → field z + 1075 - (field x + field y) ≡ n → summed x y z
     ≡ Ieee.sum binary64 (unlike (leb (top binary64) x) (leb (top binary64) y)) ((2 ^ 52 + x % 2 ^ 52) * (2 ^ 52 + y % 2 ^ 52) * 2 ^ (field x + field y)) (leb (top binary64) z)
-    ((2 ^ 52 + z % 2 ^ 52) * 2 ^ (field z + 1075 - (field x + field y)) * 2 ^ (field x + field y)) (2 ^ 2150)
-at-product x y z w =
+    ((2 ^ 52 + z % 2 ^ 52) * 2 ^ n * 2 ^ (field x + field y)) (2 ^ 2150)
+at-product x y z n w h =
     let k = common-fields x y z w in
     sum-same binary64 (unlike (leb (top binary64) x) (leb (top binary64) y)) (magnitude x * magnitude y) (leb (top binary64) z) (magnitude z * 2 ^ 1074) (2 ^ 2148)
-    ((2 ^ 52 + x % 2 ^ 52) * (2 ^ 52 + y % 2 ^ 52) * 2 ^ (field x + field y)) ((2 ^ 52 + z % 2 ^ 52) * 2 ^ (field z + 1075 - (field x + field y)) * 2 ^ (field x + field y)) (2 ^ 2150) (pow-pos 2148) (pow-pos 2150)
+    ((2 ^ 52 + x % 2 ^ 52) * (2 ^ 52 + y % 2 ^ 52) * 2 ^ (field x + field y)) ((2 ^ 52 + z % 2 ^ 52) * 2 ^ n * 2 ^ (field x + field y)) (2 ^ 2150) (pow-pos 2148) (pow-pos 2150)
     (products (2 ^ 52 + x % 2 ^ 52) (2 ^ 52 + y % 2 ^ 52) (field x) (field y) (magnitude x) (magnitude y) (k .0) (k .1) (weight-more (field x) (x % 2 ^ 52) (k .0)) (weight-more (field y) (y % 2 ^ 52) (k .1)))
-    (addends (2 ^ 52 + z % 2 ^ 52) (field z) (field x + field y) (magnitude z) (k .2) (w .4) (weight-more (field z) (z % 2 ^ 52) (k .2)))
+    (subst (λ (i : ℕ). magnitude z * 2 ^ 1074 * 2 ^ 2150 ≡ (2 ^ 52 + z % 2 ^ 52) * 2 ^ i * 2 ^ (field x + field y) * 2 ^ 2148) h
+    (addends (2 ^ 52 + z % 2 ^ 52) (field z) (field x + field y) (magnitude z) (k .2) (w .4) (weight-more (field z) (z % 2 ^ 52) (k .2))))
 
 -- ---- what the conversion comes to
 
@@ -150,3 +151,18 @@ pub bias-value : (b : Bool) (ph pl ch cl p c y : ℕ) → ph * 2 ^ 64 + pl ≡ p
     → y ≡ cond b (2 ^ 115 + p + c) (2 ^ 115 + p - c)
 bias-value true ph pl ch cl p c y e f g = omega arith
 bias-value false ph pl ch cl p c y e f g = omega arith
+
+-- a wrapping difference that is small did not wrap
+pub within : (a b r : ℕ) → b < 3000 → (r + b) % 2 ^ 64 ≡ a → r < 63 → (b ≤ a) × (a < b + 63) × (a - b ≡ r)
+within a b r l w k =
+    let e : r + b ≡ a = sym (mod-eq-of-lt (omega (arith, k, l))) ∙ w in
+    (omega (arith, e), omega (arith, e, k), omega (arith, e))
+
+pub is-common : (x y z r : ℕ) → (600 ≤ field x) × (field x < 1500) × (600 ≤ field y) × (field y < 1500) × (r < 63) → (r + (field x + field y)) % 2 ^ 64 ≡ field z + 1075
+    → Common x y z × (field z + 1075 - (field x + field y) ≡ r)
+is-common x y z r (a, b, c, d, k) w =
+    let i = within (field z + 1075) (field x + field y) r (under (field x) (field y) b d) w k in
+    ((a, b, c, d, i .0, i .1), i .2)
+  where
+    under : (f g : ℕ) → f < 1500 → g < 1500 → f + g < 3000
+    under f g b d = omega arith

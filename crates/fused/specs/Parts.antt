@@ -1,7 +1,7 @@
 -- What the bits of a float of 64 bits are. Assumes nothing.
 use Prim.Native.Nat.{ℕ, _+_, _-_, _*_, _/_, _%_, _^_, _≤_, _<_}
 use mathlib.Core.Path.{_≡_}
-use mathlib.Core.Bool.{Bool, not, cond, Bool·beq}
+use mathlib.Core.Bool.{Bool, not, cond}
 use lib.Dec.{leb}
 use lib.Ieee.{Float, binary64, unlike, round, sum, hid, ones, top}
 use Rattle.rounding.specs.Weight.{weight}
@@ -26,13 +26,13 @@ summed x y z = sum binary64 (unlike (leb (top binary64) x) (leb (top binary64) y
 abbrev pub Common : ℕ → ℕ → ℕ → Type 0
 Common x y z = (600 ≤ field x) × (field x < 1500) × (600 ≤ field y) × (field y < 1500) × (field x + field y ≤ field z + 1075) × (field z + 1075 < field x + field y + 63)
 
--- There the sum of product and addend in units of 2 ^ (e - 2150), where e is the sum of the factors' fields, with the product's sign and 2 ^ 115 more
-abbrev pub biasedSum : ℕ → ℕ → ℕ → ℕ
-biasedSum x y z =
+-- There the product, with the addend added or subtracted, and 2 ^ 115 more, in units of the product's last digit, which is n places below the addend's
+abbrev pub biasedSum : Bool → ℕ → ℕ → ℕ → ℕ → ℕ
+biasedSum like x y z n =
     let p = (2 ^ 52 + x % 2 ^ 52) * (2 ^ 52 + y % 2 ^ 52) in
-    let c = (2 ^ 52 + z % 2 ^ 52) * 2 ^ (field z + 1075 - (field x + field y)) in
-    cond (Bool·beq (unlike (leb (top binary64) x) (leb (top binary64) y)) (leb (top binary64) z)) (2 ^ 115 + p + c) (2 ^ 115 + p - c)
+    let c = (2 ^ 52 + z % 2 ^ 52) * 2 ^ n in
+    cond like (2 ^ 115 + p + c) (2 ^ 115 + p - c)
 
--- r is such a sum h * 2 ^ 64 + l, of a product with the sign s, without the 2 ^ 115 and rounded. Nearer to 0 than 2 ^ 66 units nothing is said.
+-- r is such a sum h * 2 ^ 64 + l, of a product with the sign s and with units of 2 ^ (e - 2150), rounded and without the 2 ^ 115. Nothing is said of a sum nearer to 0 than 2 ^ 66 units.
 abbrev pub Converts : Bool → ℕ → ℕ → ℕ → Float → Type 0
 Converts s h l e r = (2 ^ 51 + 4 ≤ h → r ≡ round binary64 s (((h - 2 ^ 51) * 2 ^ 64 + l) * 2 ^ e) (2 ^ 2150)) × (h + 4 ≤ 2 ^ 51 → r ≡ round binary64 (not s) (((2 ^ 51 - h) * 2 ^ 64 - l) * 2 ^ e) (2 ^ 2150))

@@ -4,26 +4,17 @@ ghost use Prim.Native.Nat.{_+_, _*_, _^_, _<_};
 ghost use lib.Ieee as Ieee;
 ghost use lib.Ieee.{binary64};
 ghost use Rattle.fused.specs.Words.{Placed};
-use super::words::shifted;
-use super::words::less;
-use super::words::sum;
-use super::words::difference;
 use super::pack::from_words;
+use super::words::difference;
+use super::words::less;
+use super::words::shifted;
+use super::words::sum;
 
 // big * 2^(e + d) + small * 2^e, each with its sign, over 2^2272. The smaller one is shifted to the
 // other's exponent, and what is shifted out stays visible in its last bit. It comes to that only
 // from a shift of three on, and then the sum keeps its leading bits. Else all of this is exact, even
 // where nearly all bits cancel.
-fn aligned(
-    bneg: bool,
-    bh: u64,
-    bl: u64,
-    sneg: bool,
-    sh: u64,
-    sl: u64,
-    e: u64,
-    d: u64,
-) -> f64
+fn aligned(bneg: bool, bh: u64, bl: u64, sneg: bool, sh: u64, sl: u64, e: u64, d: u64) -> f64
     requires { ⌜ Placed (bh * 2 ^ 64 + bl) × Placed (sh * 2 ^ 64 + sl) × (e + d < 4800) ⌝ }
     ensures { λ r. ⌜ r ≡ Ieee.sum binary64 bneg ((bh * 2 ^ 64 + bl) * 2 ^ (e + d)) sneg ((sh * 2 ^ 64 + sl) * 2 ^ e) (2 ^ 2272) ⌝ }
 {

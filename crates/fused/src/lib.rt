@@ -6,10 +6,11 @@ ghost use lib.Ieee.{binary64, isNan};
 ghost use lib.Ieee.Scale as Scale;
 ghost use Rattle.rules.specs.Fused.{fused};
 ghost use Rattle.fused.specs.Parts.{magnitude, Nonzero, summed};
-mod words;
-mod pack;
+
 mod align;
 mod near;
+mod pack;
+mod words;
 
 // The magnitude of a float: `digits` * 2^`exponent` / 2^1136.
 struct Parts {
@@ -26,9 +27,15 @@ fn unpacked(bits: u64) -> Parts
     let low = bits % 0x10_0000_0000_0000;
     if field == 0 {
         let zeros = u64::leading_zeros(low) as u64;
-        Parts { digits: low << (zeros - 1), exponent: 63 - zeros }
+        Parts {
+            digits: low << (zeros - 1),
+            exponent: 63 - zeros,
+        }
     } else {
-        Parts { digits: (0x10_0000_0000_0000 + low) * 0x400, exponent: field + 51 }
+        Parts {
+            digits: (0x10_0000_0000_0000 + low) * 0x400,
+            exponent: field + 51,
+        }
     }
 }
 
@@ -69,16 +76,13 @@ fn finite(x: f64) -> bool
 fn general(a: f64, b: f64, c: f64) -> f64
     ensures { λ r. ⌜ r ≡ fused binary64 a b c ⌝ }
 {
-    if finite(a) {
-    } else {
+    if finite(a) {} else {
         return a * b + c;
     }
-    if finite(b) {
-    } else {
+    if finite(b) {} else {
         return a * b + c;
     }
-    if finite(c) {
-    } else {
+    if finite(c) {} else {
         return c;
     }
     let x = f64::to_bits(a);
@@ -113,10 +117,16 @@ pub fn mul_add(a: f64, b: f64, c: f64) -> f64
                 let x = f64::to_bits(a);
                 let y = f64::to_bits(b);
                 let z = f64::to_bits(c);
-                if near::common(x, y, z) {
-                    let s = near::biased_sum(x, y, z);
+                let fx = x % 0x8000_0000_0000_0000 / 0x10_0000_0000_0000;
+                let fy = y % 0x8000_0000_0000_0000 / 0x10_0000_0000_0000;
+                let fz = z % 0x8000_0000_0000_0000 / 0x10_0000_0000_0000;
+                let above = std::num::wrapping_sub_u64(fz + 1075, fx + fy);
+                if near::common(fx, fy, above) {
+                    let negative = (0x8000_0000_0000_0000 <= x) != (0x8000_0000_0000_0000 <= y);
+                    let like = negative == (0x8000_0000_0000_0000 <= z);
+                    let s = near::biased_sum(like, x, y, z, above);
                     if near::long(s.high) {
-                        return near::converted(x, y, s.high, s.low);
+                        return near::converted(negative, s.high, s.low, fx + fy);
                     }
                 }
             }

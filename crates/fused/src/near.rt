@@ -6,23 +6,24 @@ ghost use mathlib.Core.Path.{_≡_};
 ghost use Prim.Native.Nat.{_+_, _-_, _*_, _^_, _≤_, _<_};
 ghost use mathlib.Core.Logic.{_⊎_};
 ghost use mathlib.Core.Bool.{true, false, not, cond};
-ghost use lib.Dec.{leb};
-ghost use lib.Ieee.{unlike};
 ghost use lib.Ieee.Exact.{HasValue};
 ghost use Rattle.fused.specs.Words.{value};
-ghost use Rattle.fused.specs.Parts.{field, Common, biasedSum, Converts};
+ghost use Rattle.fused.specs.Parts.{biasedSum, Converts};
 use super::words::Words;
+use super::words::difference;
 use super::words::marked;
 use super::words::product;
 use super::words::sum;
-use super::words::difference;
 
 // m * 2^n.
 fn lifted(m: u64, n: u64) -> Words
     requires { ⌜ n < 64 ⌝ }
     ensures { λ r. ⌜ (value r ≡ m * 2 ^ n) × (r .low < 2 ^ 64) ⌝ }
 {
-    Words { high: (m >> 1) >> (63 - n), low: m << n }
+    Words {
+        high: (m >> 1) >> (63 - n),
+        low: m << n,
+    }
 }
 
 // 2^(field + 51), in units of the smallest float, with the sign.
@@ -45,13 +46,11 @@ fn unbiased(high: u64) -> f64
     (high as i64 - 0x8_0000_0000_0000) as f64
 }
 
-// Whether the three floats are of the common case, by their exponents' fields.
-pub fn common(x: u64, y: u64, z: u64) -> bool
-    ensures { λ r. ⌜ (r ≡ true → Common x y z) ⌝ }
+// Whether the fields of the factors' exponents, and the places that the addend's last digit is above
+// the product's, are of the common case.
+pub fn common(fx: u64, fy: u64, above: u64) -> bool
+    ensures { λ r. ⌜ (r ≡ true → (600 ≤ fx) × (fx < 1500) × (600 ≤ fy) × (fy < 1500) × (above < 63)) ⌝ }
 {
-    let fx = x % 0x8000_0000_0000_0000 / 0x10_0000_0000_0000;
-    let fy = y % 0x8000_0000_0000_0000 / 0x10_0000_0000_0000;
-    let fz = z % 0x8000_0000_0000_0000 / 0x10_0000_0000_0000;
     if fx < 600 {
         return false;
     }
@@ -64,7 +63,7 @@ pub fn common(x: u64, y: u64, z: u64) -> bool
     if 1500 <= fy {
         return false;
     }
-    std::num::wrapping_sub_u64(fz + 1075, fx + fy) < 63
+    above < 63
 }
 
 fn pick(first: bool, a: u64, b: u64) -> u64
@@ -82,7 +81,10 @@ fn biased(like: bool, ph: u64, pl: u64, ch: u64, cl: u64) -> Words
     let high = 0x8_0000_0000_0000 + ph;
     let s = sum(high, pl, ch, cl);
     let d = difference(high, pl, ch, cl);
-    Words { high: pick(like, s.high, d.high), low: pick(like, s.low, d.low) }
+    Words {
+        high: pick(like, s.high, d.high),
+        low: pick(like, s.low, d.low),
+    }
 }
 
 // Whether a biased high word stands for a number of four or more, or of minus four or less: then the
@@ -97,31 +99,27 @@ pub fn long(high: u64) -> bool
     0x8_0000_0000_0004 <= high
 }
 
-// The product of a and b and c with their signs, and 2^115 more, in the common case, by their bits. The
-// unit is 2^(e - 2150), where e is the sum of the factors' exponents' fields; the sign is the product's.
-pub fn biased_sum(x: u64, y: u64, z: u64) -> Words
-    requires { ⌜ Common x y z ⌝ }
-    ensures { λ r. ⌜ (value r ≡ biasedSum x y z) × (r .low < 2 ^ 64) × (r .high < 2 ^ 53) ⌝ }
+// The product of a and b, with c added or subtracted, and 2^115 more, by their bits: in units of the
+// product's last digit, which is n places below the addend's.
+pub fn biased_sum(like: bool, x: u64, y: u64, z: u64, n: u64) -> Words
+    requires { ⌜ n < 63 ⌝ }
+    ensures { λ r. ⌜ (value r ≡ biasedSum like x y z n) × (r .low < 2 ^ 64) × (r .high < 2 ^ 53) ⌝ }
 {
-    let fx = x % 0x8000_0000_0000_0000 / 0x10_0000_0000_0000;
-    let fy = y % 0x8000_0000_0000_0000 / 0x10_0000_0000_0000;
-    let fz = z % 0x8000_0000_0000_0000 / 0x10_0000_0000_0000;
-    let negative = (0x8000_0000_0000_0000 <= x) != (0x8000_0000_0000_0000 <= y);
-    let p = product(0x10_0000_0000_0000 + x % 0x10_0000_0000_0000, 0x10_0000_0000_0000 + y % 0x10_0000_0000_0000);
-    let c = lifted(0x10_0000_0000_0000 + z % 0x10_0000_0000_0000, fz + 1075 - (fx + fy));
-    biased(negative == (0x8000_0000_0000_0000 <= z), p.high, p.low, c.high, c.low)
+    let p = product(
+        0x10_0000_0000_0000 + x % 0x10_0000_0000_0000,
+        0x10_0000_0000_0000 + y % 0x10_0000_0000_0000,
+    );
+    let c = lifted(0x10_0000_0000_0000 + z % 0x10_0000_0000_0000, n);
+    biased(like, p.high, p.low, c.high, c.low)
 }
 
-// The float nearest to a biased sum of the product of a and b, by the bits of a and b. Both words are
-// floats, but for the last bits of the low one, which are left to a sticky bit: the sum is the only
+// The float nearest to a biased sum in units of 2^(e - 2150), where the sign is the product's. Both words
+// are floats, but for the last bits of the low one, which are left to a sticky bit: the sum is the only
 // operation that rounds.
-pub fn converted(x: u64, y: u64, high: u64, low: u64) -> f64
-    requires { ⌜ (high < 2 ^ 53) × (1200 ≤ field x + field y) × (field x + field y < 3000) ⌝ }
-    ensures { λ r. ⌜ Converts (unlike (leb (2 ^ 63) x) (leb (2 ^ 63) y)) high low (field x + field y) r ⌝ }
+pub fn converted(negative: bool, high: u64, low: u64, e: u64) -> f64
+    requires { ⌜ (high < 2 ^ 53) × (1200 ≤ e) × (e < 3000) ⌝ }
+    ensures { λ r. ⌜ Converts negative high low e r ⌝ }
 {
-    let fx = x % 0x8000_0000_0000_0000 / 0x10_0000_0000_0000;
-    let fy = y % 0x8000_0000_0000_0000 / 0x10_0000_0000_0000;
-    let negative = (0x8000_0000_0000_0000 <= x) != (0x8000_0000_0000_0000 <= y);
     let l = marked(low / 0x800, low % 0x800) as f64;
-    unbiased(high) * power(negative, fx + fy - 1063) + l * power(negative, fx + fy - 1116)
+    unbiased(high) * power(negative, e - 1063) + l * power(negative, e - 1116)
 }

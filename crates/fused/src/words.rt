@@ -34,7 +34,10 @@ pub fn product(a: u64, b: u64) -> Words
     let lowest = a0 * b0;
     let low = std::num::wrapping_add_u64(lowest, middle % 0x1_0000_0000 * 0x1_0000_0000);
     let carry = below(low, lowest);
-    Words { high: a1 * b1 + middle / 0x1_0000_0000 + carry, low: low }
+    Words {
+        high: a1 * b1 + middle / 0x1_0000_0000 + carry,
+        low: low,
+    }
 }
 
 // x + y: the low words are added modulo 2^64, and the carry is noted.
@@ -44,7 +47,10 @@ pub fn sum(xh: u64, xl: u64, yh: u64, yl: u64) -> Words
 {
     let low = std::num::wrapping_add_u64(xl, yl);
     let carry = below(low, xl);
-    Words { high: xh + yh + carry, low: low }
+    Words {
+        high: xh + yh + carry,
+        low: low,
+    }
 }
 
 // x - y: the low words are subtracted modulo 2^64, and the borrow is noted.
@@ -54,7 +60,10 @@ pub fn difference(xh: u64, xl: u64, yh: u64, yl: u64) -> Words
 {
     let low = std::num::wrapping_sub_u64(xl, yl);
     let borrow = below(xl, yl);
-    Words { high: xh - yh - borrow, low: low }
+    Words {
+        high: xh - yh - borrow,
+        low: low,
+    }
 }
 
 // x with its last bit set, unless rest is 0: a sticky last bit.
@@ -86,9 +95,15 @@ pub fn shifted(xh: u64, xl: u64, n: u64) -> Words
     if n < 64 {
         let q = xl >> n;
         let low = (xh << (64 - n)) + q;
-        Words { high: xh >> n, low: marked(low, xl - (q << n)) }
+        Words {
+            high: xh >> n,
+            low: marked(low, xl - (q << n)),
+        }
     } else {
-        Words { high: 0, low: shifted_word(marked(xh, xl), n - 64) }
+        Words {
+            high: 0,
+            low: shifted_word(marked(xh, xl), n - 64),
+        }
     }
 }
 

@@ -24,7 +24,7 @@ even-power d h = ap (λ (x : ℕ). x % 2) (ap (λ (x : ℕ). 2 ^ x) (pred d h) �
 -- x * 2 ^ g / (v * 2 ^ h), where the word w is x / v with a sticky last digit. Of w the d last digits are dropped, and what is kept counts
 -- 2 ^ k of the format's smallest values. Either k is 0, or w has all the digits that it may have.
 module _ (f : Format) (s : Bool) (v x w g h k d : ℕ) (v-pos : 0 < v) (two-dropped : 2 ≤ d) (scale : g + low f + d ≡ h + k)
-  (sticky : Sticky v x w) (short : w < 2 ^ (prec f + d)) (long : (k ≡ 0) ⊎ (2 ^ (prec f - 1 + d) ≤ w)) where
+    (sticky : Sticky v x w) (short : w < 2 ^ (prec f + d)) (long : (k ≡ 0) ⊎ (2 ^ (prec f - 1 + d) ≤ w)) where
   abbrev n : ℕ
   n = x * 2 ^ g * 2 ^ low f
 
@@ -112,8 +112,8 @@ round-sticky f s v x y g h p t l u =
     let many : suc (prec f) < size y = lt-of-not-le (λ (n : size y ≤ suc (prec f)). lt-irrefl y (lt-of-lt-of-le (size-lt y) (le-trans (pow-mono n) l))) in
     let at : (v x : ℕ) → 0 < v → Sticky v x y → round f s (x * 2 ^ g) (v * 2 ^ h) ≡ ofBits f (cond s (top f) 0 + min ((g + low f + d - h) * hid f + closest y (2 ^ d)) (ones f * hid f)) =
     λ v x p t.
-        round-word f s v x y g h (g + low f + d - h) d p (two-more (size y) (prec f) many) (scales g (low f) d h (two-more (size y) (prec f) many) u) t
-        (subst (λ (a : ℕ). y < 2 ^ a) (whole (size y) (prec f) many) (size-lt y)) (inr (size-reaches y (prec f - 1 + d) (below (size y) (prec f) many (two f)))) in
+    round-word f s v x y g h (g + low f + d - h) d p (two-more (size y) (prec f) many) (scales g (low f) d h (two-more (size y) (prec f) many) u) t
+    (subst (λ (a : ℕ). y < 2 ^ a) (whole (size y) (prec f) many) (size-lt y)) (inr (size-reaches y (prec f - 1 + d) (below (size y) (prec f) many (two f)))) in
     at v x p t ∙ sym (at 1 y (zero-lt-suc 0) (inl (sym (mul-one y))))
   where
     two-more : (z p : ℕ) → suc p < z → 2 ≤ z - p

@@ -72,10 +72,11 @@ returns-6 c =
     (mul-pos (magnitude-pos (toBits binary64 (c .before .before .before .before .before .before .before .before .before .args .a)) (positive (c .before .before .if4 .left))) (magnitude-pos (toBits binary64 (c .before .before .before .before .before .before .before .before .before .args .b)) (positive (c .before .if5 .left)))) (magnitude-zero (toBits binary64 (c .before .before .before .before .before .before .before .before .before .args .c)) (c .if6 .taken))
 
 of-bits-requires : tie.Need-of-bits-requires
-of-bits-requires c κs =
-    ((field-lt (c .before .before .before .before .before .before .before .before .before .args .a) (subst T (sym (c .before .before .before .before .before .before .before .before .before .good .0 .1)) tt) (sym (c .before .before .before .before .before .before .before .before .finite .ensures) ∙ c .before .before .before .before .before .before .before .if1 .taken), positive (c .before .before .if4 .left)),
-     (field-lt (c .before .before .before .before .before .before .before .before .before .args .b) (subst T (sym (c .before .before .before .before .before .before .before .before .before .good .1 .0 .1)) tt) (sym (c .before .before .before .before .before .before .finite2 .ensures) ∙ c .before .before .before .before .before .if2 .taken), positive (c .before .if5 .left)),
-     (field-lt (c .before .before .before .before .before .before .before .before .before .args .c) (subst T (sym (c .before .before .before .before .before .before .before .before .before .good .1 .1 .0 .1)) tt) (sym (c .before .before .before .before .finite3 .ensures) ∙ c .before .before .before .if3 .taken), positive (c .if6 .left)))
+of-bits-requires c κs = (
+  (field-lt (c .before .before .before .before .before .before .before .before .before .args .a) (subst T (sym (c .before .before .before .before .before .before .before .before .before .good .0 .1)) tt) (sym (c .before .before .before .before .before .before .before .before .finite .ensures) ∙ c .before .before .before .before .before .before .before .if1 .taken), positive (c .before .before .if4 .left)),
+  (field-lt (c .before .before .before .before .before .before .before .before .before .args .b) (subst T (sym (c .before .before .before .before .before .before .before .before .before .good .1 .0 .1)) tt) (sym (c .before .before .before .before .before .before .finite2 .ensures) ∙ c .before .before .before .before .before .if2 .taken), positive (c .before .if5 .left)),
+  (field-lt (c .before .before .before .before .before .before .before .before .before .args .c) (subst T (sym (c .before .before .before .before .before .before .before .before .before .good .1 .1 .0 .1)) tt) (sym (c .before .before .before .before .finite3 .ensures) ∙ c .before .before .before .if3 .taken), positive (c .if6 .left)),
+)
 
 returns-7 : tie.Need-returns-7
 returns-7 c =

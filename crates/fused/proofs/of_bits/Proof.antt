@@ -34,11 +34,12 @@ rounded-sum-requires c κs =
     let u = c .before .before .before .before .before .before .before .unpacked in
     let v = c .before .before .before .before .before .before .unpacked2 in
     let w = c .before .before .before .before .before .unpacked3 in
-    let p = c .before .before .before .before .product in
-    (product-placed (u .result .digits) (v .result .digits) (p .result .high * 2 ^ 64 + p .result .low) (p .ensures) (u .ensures .1) (u .ensures .2) (u .ensures .3) (v .ensures .1) (v .ensures .2) (v .ensures .3),
-     addend-placed (w .result .digits) (w .ensures .1) (w .ensures .2) (w .ensures .3),
-     omega (arith, u .ensures .4, v .ensures .4),
-     omega (arith, w .ensures .4))
+    let p = c .before .before .before .before .product in (
+      product-placed (u .result .digits) (v .result .digits) (p .result .high * 2 ^ 64 + p .result .low) (p .ensures) (u .ensures .1) (u .ensures .2) (u .ensures .3) (v .ensures .1) (v .ensures .2) (v .ensures .3),
+      addend-placed (w .result .digits) (w .ensures .1) (w .ensures .2) (w .ensures .3),
+      omega (arith, u .ensures .4, v .ensures .4),
+      omega (arith, w .ensures .4),
+    )
 
 returns : tie.Need-returns
 returns c =

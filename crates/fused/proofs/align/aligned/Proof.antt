@@ -58,9 +58,11 @@ add-from-words-2 c = search needs
 from-words-requires-2 : tie.Need-from-words-requires-2
 from-words-requires-2 c κs =
     let a = c .before .before .before .before .before .args in
-    let j = c .before .before .before .before .shifted .result in
-    (some (c .difference .result .high) (c .difference .result .low) ((a .bh * 2 ^ 64 + a .bl) - (j .high * 2 ^ 64 + j .low)) (c .difference .ensures .0)
-    (difference-pos (a .bh * 2 ^ 64 + a .bl) (j .high * 2 ^ 64 + j .low) (was-less (j .high * 2 ^ 64 + j .low) (a .bh * 2 ^ 64 + a .bl) (c .before .before .less .result) (c .before .if2 .taken) (c .before .before .less .ensures))), c .before .before .before .before .before .pre .2)
+    let j = c .before .before .before .before .shifted .result in (
+      some (c .difference .result .high) (c .difference .result .low) ((a .bh * 2 ^ 64 + a .bl) - (j .high * 2 ^ 64 + j .low)) (c .difference .ensures .0)
+          (difference-pos (a .bh * 2 ^ 64 + a .bl) (j .high * 2 ^ 64 + j .low) (was-less (j .high * 2 ^ 64 + j .low) (a .bh * 2 ^ 64 + a .bl) (c .before .before .less .result) (c .before .if2 .taken) (c .before .before .less .ensures))),
+      c .before .before .before .before .before .pre .2,
+    )
 
 returns-2 : tie.Need-returns-2
 returns-2 c =
@@ -87,9 +89,11 @@ add-from-words-3 c = search needs
 from-words-requires-3 : tie.Need-from-words-requires-3
 from-words-requires-3 c κs =
     let a = c .before .before .before .before .before .before .before .args in
-    let j = c .before .before .before .before .before .before .shifted .result in
-    (some (c .difference2 .result .high) (c .difference2 .result .low) ((j .high * 2 ^ 64 + j .low) - (a .bh * 2 ^ 64 + a .bl)) (c .difference2 .ensures .0)
-    (difference-pos (j .high * 2 ^ 64 + j .low) (a .bh * 2 ^ 64 + a .bl) (was-less (a .bh * 2 ^ 64 + a .bl) (j .high * 2 ^ 64 + j .low) (c .before .before .less2 .result) (c .before .if3 .taken) (c .before .before .less2 .ensures))), c .before .before .before .before .before .before .before .pre .2)
+    let j = c .before .before .before .before .before .before .shifted .result in (
+      some (c .difference2 .result .high) (c .difference2 .result .low) ((j .high * 2 ^ 64 + j .low) - (a .bh * 2 ^ 64 + a .bl)) (c .difference2 .ensures .0)
+          (difference-pos (j .high * 2 ^ 64 + j .low) (a .bh * 2 ^ 64 + a .bl) (was-less (a .bh * 2 ^ 64 + a .bl) (j .high * 2 ^ 64 + j .low) (c .before .before .less2 .result) (c .before .if3 .taken) (c .before .before .less2 .ensures))),
+      c .before .before .before .before .before .before .before .pre .2,
+    )
 
 returns-3 : tie.Need-returns-3
 returns-3 c =

@@ -1,10 +1,7 @@
 -- Assumes nothing.
-use Prim.Native.Nat.{_+_, _-_, _^_}
+use Prim.Native.Nat.{_-_, _^_}
 use native.Mathlib.Omega.{arith}
-use lib.Dec.{leb}
-use lib.Ieee.{unlike}
 use borrow.Author.Needs.{needs}
-use Rattle.fused.specs.Parts.{field}
 use Rattle.fused.proofs.Convert.{low-short, low-sticky, fits-float, converted-above, converted-below}
 use Rattle.fused.proofs.near.converted.Statement.{statement}
 use Rattle.fused.proofs.near.converted.Tie as tie
@@ -18,17 +15,11 @@ int-to-float-l c = let b = c .before .before in fits-float (c .before .marked .r
 unbiased-requires : tie.Need-unbiased-requires
 unbiased-requires c κs = search needs
 
-add-power : tie.Need-add-power
-add-power c = search needs
-
 sub-power : tie.Need-sub-power
 sub-power c = search needs
 
 power-requires : tie.Need-power-requires
 power-requires c κs = search needs
-
-add-power-2 : tie.Need-add-power-2
-add-power-2 c = search needs
 
 sub-power-2 : tie.Need-sub-power-2
 sub-power-2 c = search needs
@@ -42,14 +33,14 @@ returns c =
     let p = c .before .before .before .before .before .pre in
     let f = c .before .before .before .before .before .fits in
     let j = c .before .before .before .before .marked in
-    let u = c .before .before .unbiased in
-    let s = unlike (leb (2 ^ 63) (a .x)) (leb (2 ^ 63) (a .y)) in
-    (λ g. converted-above s (a .high - 2 ^ 51) (a .low) (j .result) (field (a .x) + field (a .y)) (u .result) (c .before .power .result) (c .power2 .result)
-    (omega (arith, p .0, g)) (omega (arith, g)) (low-short (a .low) (j .result) (f .low .fits) (j .ensures)) (low-sticky (a .low) (j .result) (j .ensures)) (p .1) (p .2) (c .before .power .ensures) (c .power2 .ensures)
-    (u .ensures .0 (omega (arith, g))),
-     λ g. converted-below s (2 ^ 51 - a .high) (a .low) (j .result) (field (a .x) + field (a .y)) (u .result) (c .before .power .result) (c .power2 .result)
-    (omega (arith, p .0, g)) (omega (arith, g)) (low-short (a .low) (j .result) (f .low .fits) (j .ensures)) (low-sticky (a .low) (j .result) (j .ensures)) (p .1) (p .2) (c .before .power .ensures) (c .power2 .ensures)
-    (u .ensures .1 (omega (arith, g))))
+    let u = c .before .before .unbiased in (
+      λ g. converted-above (a .negative) (a .high - 2 ^ 51) (a .low) (j .result) (a .e) (u .result) (c .before .power .result) (c .power2 .result)
+          (omega (arith, p .0, g)) (omega (arith, g)) (low-short (a .low) (j .result) (f .low .fits) (j .ensures)) (low-sticky (a .low) (j .result) (j .ensures)) (p .1) (p .2) (c .before .power .ensures) (c .power2 .ensures)
+          (u .ensures .0 (omega (arith, g))),
+      λ g. converted-below (a .negative) (2 ^ 51 - a .high) (a .low) (j .result) (a .e) (u .result) (c .before .power .result) (c .power2 .result)
+          (omega (arith, p .0, g)) (omega (arith, g)) (low-short (a .low) (j .result) (f .low .fits) (j .ensures)) (low-sticky (a .low) (j .result) (j .ensures)) (p .1) (p .2) (c .before .power .ensures) (c .power2 .ensures)
+          (u .ensures .1 (omega (arith, g))),
+    )
 
 pub converted-spec : {M : Type 1} → statement M
 converted-spec =
@@ -58,10 +49,8 @@ converted-spec =
     marked-requires
     int-to-float-l
     unbiased-requires
-    add-power
     sub-power
     power-requires
-    add-power-2
     sub-power-2
     power-requires-2
     returns)

@@ -31,9 +31,11 @@ sub-t8 c =
 returns : tie.Need-returns
 returns c =
     let a = c .before .before .args in
-    let fits = c .before .before .fits in
-    (subtracted (2 ^ 64) (a .xh) (a .xl) (a .yh) (a .yl) (c .before .wrapping-sub-u64 .result) (c .before .wrapping-sub-u64 .ok) (fits .xl .fits) (fits .yl .fits) (c .before .before .pre)
-    (c .before .wrapping-sub-u64 .ensures) (c .below .result) (c .below .ensures), c .before .wrapping-sub-u64 .ok)
+    let fits = c .before .before .fits in (
+      subtracted (2 ^ 64) (a .xh) (a .xl) (a .yh) (a .yl) (c .before .wrapping-sub-u64 .result) (c .before .wrapping-sub-u64 .ok) (fits .xl .fits) (fits .yl .fits) (c .before .before .pre)
+          (c .before .wrapping-sub-u64 .ensures) (c .below .result) (c .below .ensures),
+      c .before .wrapping-sub-u64 .ok,
+    )
 
 pub difference-spec : {M : Type 1} → statement M
 difference-spec = tie.close (tie.spec wrapping-sub-u64-requires below-requires sub-t7 sub-t8 returns)

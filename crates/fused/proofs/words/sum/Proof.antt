@@ -21,9 +21,11 @@ add-t8 c = let k = c .below .ensures in let l = flag-le (c .before .wrapping-add
 returns : tie.Need-returns
 returns c =
     let a = c .before .before .args in
-    let fits = c .before .before .fits in
-    (added (2 ^ 64) (a .xh) (a .xl) (a .yh) (a .yl) (c .before .wrapping-add-u64 .result) (fits .xl .fits) (fits .yl .fits) (c .before .wrapping-add-u64 .ensures)
-    (c .below .result) (c .below .ensures), c .before .wrapping-add-u64 .ok)
+    let fits = c .before .before .fits in (
+      added (2 ^ 64) (a .xh) (a .xl) (a .yh) (a .yl) (c .before .wrapping-add-u64 .result) (fits .xl .fits) (fits .yl .fits) (c .before .wrapping-add-u64 .ensures)
+          (c .below .result) (c .below .ensures),
+      c .before .wrapping-add-u64 .ok,
+    )
 
 pub sum-spec : {M : Type 1} → statement M
 sum-spec = tie.close (tie.spec wrapping-add-u64-requires below-requires add-t7 add-t8 returns)
