@@ -1,0 +1,313 @@
+//! The fused multiply-add of the static library against `f64::mul_add`. `compare/fused` builds and
+//! runs it.
+//!
+//!   fused list             prints the list that crates/fused_vectors replays in the gate
+//!   fused compare COUNT    compares COUNT generated triples, by family
+//!   fused time             times both, over operands as a query has them and over a hard mix
+//!
+//! Expected bits come from `f64::mul_add` with the processor's own instruction: the program refuses to
+//! run without it. A NaN equals every NaN; all else is compared bit for bit.
+
+use std::hint::black_box;
+use std::time::Instant;
+
+#[link(name = "capi", kind = "static")]
+extern "C" {
+    fn spline_mul_add(a: f64, b: f64, c: f64) -> f64;
+}
+
+type Triple = (f64, f64, f64);
+
+/// xorshift64*: the same triples for the same seed.
+struct Random(u64);
+
+impl Random {
+    fn bits(&mut self) -> u64 {
+        self.0 ^= self.0 >> 12;
+        self.0 ^= self.0 << 25;
+        self.0 ^= self.0 >> 27;
+        self.0.wrapping_mul(0x2545_f491_4f6c_dd1d)
+    }
+    fn below(&mut self, n: u64) -> u64 {
+        (self.bits() >> 11) % n
+    }
+    fn between(&mut self, low: i64, high: i64) -> i64 {
+        assert!(low <= high);
+        low + self.below((high - low + 1) as u64) as i64
+    }
+    fn sign(&mut self) -> f64 {
+        if self.below(2) == 0 {
+            1.0
+        } else {
+            -1.0
+        }
+    }
+    /// ± a significand times 2^e, subnormal or zero or infinite where e is out of range. Half of the
+    /// significands end in zeros, so that sums meet ties and cancel exactly.
+    fn at(&mut self, e: i64) -> f64 {
+        let digits = self.bits() & !0 >> 12;
+        let cut = if self.below(2) == 0 { 0 } else { self.below(53) };
+        let m = 1u64 << 52 | digits >> cut << cut;
+        self.sign() * scaled(m as f64, e - 52)
+    }
+    fn pattern(&mut self) -> f64 {
+        f64::from_bits(self.bits())
+    }
+}
+
+/// x * 2^e, where x is a whole number below 2^53. Only the last factor can round.
+fn scaled(x: f64, e: i64) -> f64 {
+    let first = e.clamp(-900, 900);
+    let rest = e - first;
+    assert!(rest.abs() <= 1000);
+    x * power(first) * power(rest)
+}
+
+fn power(e: i64) -> f64 {
+    f64::from_bits(((1023 + e) as u64) << 52)
+}
+
+fn specials() -> Vec<f64> {
+    let tiny = f64::from_bits(1);
+    let subnormal = f64::from_bits((1 << 52) - 1);
+    let one_up = 1.0 + f64::EPSILON;
+    let one_down = 1.0 - f64::EPSILON / 2.0;
+    let mut all = vec![f64::NAN, f64::INFINITY, f64::NEG_INFINITY];
+    for x in [0.0, tiny, subnormal, f64::MIN_POSITIVE, 0.5, one_down, 1.0, one_up, 3.0, power(-537), power(511), f64::MAX / 2.0, f64::MAX] {
+        all.push(x);
+        all.push(-x);
+    }
+    all.push(power(-1022) * 1.5);
+    all
+}
+
+const FAMILIES: [&str; 8] =
+    ["query", "ties", "cancellation", "subnormal results", "subnormal operands", "near overflow", "exponent gaps", "random patterns"];
+
+/// The nth triple of a family.
+fn triple(family: usize, n: u64, random: &mut Random) -> Triple {
+    match FAMILIES[family] {
+        "query" => {
+            let e = random.between(-30, 29);
+            query(random, e)
+        }
+        // c * 2^0 and half a unit of its last place, or next to half
+        "ties" => {
+            let e = random.between(-1000, 900);
+            let c = random.at(e);
+            let odd = (2 * random.below(1 << 40) + 1) as f64;
+            let a = match random.below(4) {
+                0 => f64::from_bits(odd.to_bits() + 1),
+                1 => f64::from_bits(odd.to_bits() - 1),
+                _ => odd,
+            };
+            (a * random.sign(), scaled(1.0, e - 53), c)
+        }
+        "cancellation" => {
+            let (ea, eb) = (random.between(-500, 500), random.between(-500, 500));
+            let (a, b) = (random.at(ea), random.at(eb));
+            let c = -(a * b);
+            (a, b, f64::from_bits(c.to_bits().wrapping_add(random.below(9)).wrapping_sub(4)))
+        }
+        "subnormal results" => {
+            let e = random.between(-1000, -15);
+            let (sum, ec) = (random.between(-1140, -1015), random.between(-1100, -1018));
+            (random.at(e), random.at(sum - e), random.at(ec))
+        }
+        "subnormal operands" => {
+            let e = random.between(-1074, -1023);
+            let (eb, ec) = (random.between(-60, 1023), random.between(-1074, 0));
+            let (a, b, c) = (random.at(e), random.at(eb), random.at(ec));
+            if random.below(2) == 0 {
+                (a, b, c)
+            } else {
+                (b, a, c)
+            }
+        }
+        "near overflow" => {
+            let e = random.between(-20, 1020);
+            let (sum, ec) = (random.between(1020, 1026), random.between(960, 1023));
+            (random.at(e), random.at(sum - e), random.at(ec))
+        }
+        // the addend lies n % 2101 places below or above the product
+        "exponent gaps" => {
+            let gap = (n % 2101) as i64;
+            let above = random.below(2) == 0;
+            let ec = if above { random.between(-1074, 1023.min(2046 - gap)) } else { random.between((-1074).max(gap - 2148), 1023) };
+            let sum = if above { ec + gap } else { ec - gap };
+            let e = random.between((-1074).max(sum - 1023), 1023.min(sum + 1074));
+            (random.at(e), random.at(sum - e), random.at(ec))
+        }
+        _ => (random.pattern(), random.pattern(), random.pattern()),
+    }
+}
+
+/// A step as a query has it: tau in [0, 1), and two numbers of one magnitude, whose exponent is within ±30.
+fn query(random: &mut Random, e: i64) -> Triple {
+    let tau = (random.bits() >> 11) as f64 * power(-53);
+    let (i, j) = (random.between(0, 1), random.between(0, 1));
+    (full(random, e + i), tau, full(random, e + j))
+}
+
+/// Steps as queries have them: eight of one magnitude, then eight of another.
+fn queries(random: &mut Random, count: usize) -> Vec<Triple> {
+    let mut e = 0;
+    let mut all = Vec::new();
+    for n in 0..count {
+        if n % 8 == 0 {
+            e = random.between(-30, 29);
+        }
+        all.push(query(random, e));
+    }
+    all
+}
+
+/// All exponents within ±30, each by itself.
+fn spread(random: &mut Random) -> Triple {
+    let (i, j, k) = (random.between(-30, 30), random.between(-30, 30), random.between(-30, 30));
+    (full(random, i), full(random, j), full(random, k))
+}
+
+fn full(random: &mut Random, e: i64) -> f64 {
+    random.sign() * f64::from_bits(((1023 + e) as u64) << 52 | random.bits() >> 12)
+}
+
+#[target_feature(enable = "fma")]
+fn expected(a: f64, b: f64, c: f64) -> f64 {
+    a.mul_add(b, c)
+}
+
+fn same(x: f64, y: f64) -> bool {
+    x.to_bits() == y.to_bits() || x.is_nan() && y.is_nan()
+}
+
+fn list() {
+    let line = |(a, b, c): Triple| {
+        // SAFETY: main has seen that the processor has the instruction.
+        let r = unsafe { expected(a, b, c) };
+        let bits = |x: f64| if x.is_nan() { f64::NAN.to_bits() } else { x.to_bits() };
+        println!("{:016x} {:016x} {:016x} {:016x}", bits(a), bits(b), bits(c), bits(r));
+    };
+    let special = specials();
+    for &a in &special {
+        for &b in &special {
+            for &c in &special {
+                line((a, b, c));
+            }
+        }
+    }
+    let mut random = Random(0x9e37_79b9_7f4a_7c15);
+    for family in 0..FAMILIES.len() {
+        for n in 0..2101 {
+            line(triple(family, n, &mut random));
+        }
+    }
+}
+
+fn compare(count: u64) {
+    let (mut seen, mut unlike) = (0, 0);
+    for family in 0..FAMILIES.len() {
+        let mut random = Random(0x1234_5678_9abc_def1 + family as u64);
+        let (mut here, each) = (0, count.div_ceil(FAMILIES.len() as u64));
+        for n in 0..each {
+            let (a, b, c) = triple(family, n, &mut random);
+            // SAFETY: as in `list`; the library's function takes any floats.
+            let (r, e) = unsafe { (spline_mul_add(a, b, c), expected(a, b, c)) };
+            if !same(r, e) {
+                here += 1;
+                if here <= 3 {
+                    println!("{a:e} {b:e} {c:e}: {r:e}, expected {e:e}");
+                }
+            }
+        }
+        println!("{:20} {each} triples, {here} unlike", FAMILIES[family]);
+        seen += each;
+        unlike += here;
+    }
+    println!("{:20} {seen} triples, {unlike} unlike", "all");
+}
+
+/// Nanoseconds a call: the best of many rounds, each over more triples than a branch predictor learns.
+/// In a chain each result is the next call's factor.
+#[inline(always)]
+fn chain(triples: &[Triple], f: impl Fn(f64, f64, f64) -> f64) -> f64 {
+    best(triples, || {
+        let mut r = 1.0;
+        for &(_, b, c) in triples {
+            r = f(r, b, c);
+        }
+        black_box(r);
+    })
+}
+
+/// A chain for triples whose results are infinite or NaN at times: each result's sign is the next factor's.
+#[inline(always)]
+fn sign_chain(triples: &[Triple], f: impl Fn(f64, f64, f64) -> f64) -> f64 {
+    best(triples, || {
+        let mut r: f64 = 1.0;
+        for &(a, b, c) in triples {
+            r = f(f64::from_bits(a.to_bits() ^ r.to_bits() & 1 << 63), b, c);
+        }
+        black_box(r);
+    })
+}
+
+#[inline(always)]
+fn independent(triples: &[Triple], f: impl Fn(f64, f64, f64) -> f64) -> f64 {
+    best(triples, || {
+        let mut sum = 0;
+        for &(a, b, c) in triples {
+            sum ^= f(a, b, c).to_bits();
+        }
+        black_box(sum);
+    })
+}
+
+#[inline(always)]
+fn best(triples: &[Triple], round: impl Fn()) -> f64 {
+    let mut least = f64::MAX;
+    for _ in 0..25 {
+        let start = Instant::now();
+        round();
+        least = least.min(start.elapsed().as_secs_f64() * 1e9 / triples.len() as f64);
+    }
+    least
+}
+
+#[target_feature(enable = "fma")]
+fn native(triples: &[Triple], plain: bool) -> (f64, f64) {
+    let f = |a: f64, b: f64, c: f64| a.mul_add(b, c);
+    (if plain { chain(triples, f) } else { sign_chain(triples, f) }, independent(triples, f))
+}
+
+fn time() {
+    const N: usize = 1 << 17;
+    let mut random = Random(0x0dd0_5eed_0dd0_5eed);
+    let sets: [(&str, bool, Vec<Triple>); 3] = [
+        ("as a query has them", true, queries(&mut random, N)),
+        ("each exponent within ±30", false, (0..N).map(|_| spread(&mut random)).collect()),
+        ("hard mix", false, (0..N).map(|n| triple(n % FAMILIES.len(), n as u64, &mut random)).collect()),
+    ];
+    println!("nanoseconds a call        chain: ours default native  ratio  independent: ours default native  ratio");
+    for (name, plain, triples) in &sets {
+        // SAFETY: as in `compare`.
+        let ours = |a, b, c| unsafe { spline_mul_add(a, b, c) };
+        let default = |a: f64, b: f64, c: f64| a.mul_add(b, c);
+        let (oi, di) = (independent(triples, ours), independent(triples, default));
+        let (oc, dc) =
+            if *plain { (chain(triples, ours), chain(triples, default)) } else { (sign_chain(triples, ours), sign_chain(triples, default)) };
+        let (nc, ni) = unsafe { native(triples, *plain) };
+        println!("{name:25} {oc:11.2} {dc:7.2} {nc:6.2} {:6.2} {oi:18.2} {di:7.2} {ni:6.2} {:6.2}", oc / dc, oi / di);
+    }
+}
+
+fn main() {
+    assert!(is_x86_feature_detected!("fma"), "a processor without a fused multiply-add");
+    let words: Vec<String> = std::env::args().skip(1).collect();
+    match words.iter().map(String::as_str).collect::<Vec<_>>().as_slice() {
+        ["list"] => list(),
+        ["compare", count] => compare(count.parse().expect("a count")),
+        ["time"] => time(),
+        _ => panic!("list, compare COUNT or time"),
+    }
+}

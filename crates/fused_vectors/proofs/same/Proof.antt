@@ -1,0 +1,32 @@
+-- Assumes nothing.
+use mathlib.Core.Path.{_≡_, subst}
+use mathlib.Core.Bool.{true, false, not}
+use lib.Dec.{T}
+use lib.Ieee.{Float, nan, inf, fin, eq, ne, isNan}
+use borrow.Author.Needs.{needs}
+use Rattle.fused_vectors.proofs.same.Statement.{statement}
+use Rattle.fused_vectors.proofs.same.Tie as tie
+use Rattle.fused_vectors.proofs.same.Reads as reads
+use Rattle.fused_vectors.proofs.same.Lts as lts
+use Rattle.fused_vectors.proofs.is_nan.Reads as is-nan-reads
+
+number : (x : Float) → ne x x ≡ false → T (not (isNan x))
+unfolding ne eq isNan
+number nan h = subst T h tt
+number (inf s) h = tt
+number (fin s m e) h = tt
+
+is-nan-requires : tie.Need-is-nan-requires
+is-nan-requires c κs = search needs
+
+returns : tie.Need-returns
+returns c = search needs
+
+float-to-bits-result : tie.Need-float-to-bits-result
+float-to-bits-result c = number (c .before .args .x) (c .if1 .left)
+
+returns-2 : tie.Need-returns-2
+returns-2 c = search needs
+
+pub same-spec : {M : Type 1} → statement M
+same-spec = tie.close (tie.spec is-nan-requires returns float-to-bits-result returns-2)
