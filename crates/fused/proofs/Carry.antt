@@ -1,11 +1,11 @@
 -- Sums modulo a base, with their carry. Assumes nothing.
-use mathlib.Core.Path.{_≡_, refl, sym, ap, ap₂, _∙_, subst}
-use mathlib.Core.Logic.{_⊎_, inl, inr}
-use Prim.Native.Nat.{ℕ, zero, suc, _+_, _-_, _*_, _/_, _%_, _^_, _≤_, _<_, zero-le}
-use native.Mathlib.Nat.{zero-mul, one-mul, zero-add, add-mul, mul-add, mul-assoc, mul-comm, mod-eq-of-lt, mod-eq-sub-mod, div-add-mod', mul-lt-mul-of-pos-right, lt-of-le-of-lt, lt-of-lt-of-le, mul-le-mul-left, le-of-lt, le-of-eq, mul-lt-mul-of-pos-left, le-trans, add-comm, suc-mul, lt-of-mul-lt-mul-right, le-of-suc-le-suc, mul-le-mul-right, mul-right-comm, mul-left-comm}
+use mathlib.Core.Path.{_≡_, sym, ap, ap₂, _∙_}
+use mathlib.Core.Logic.{inl, inr}
+use Prim.Native.Nat.{ℕ, _+_, _-_, _*_, _/_, _%_, _^_, _≤_, _<_, zero-le}
+use native.Mathlib.Nat.{zero-mul, one-mul, zero-add, add-mul, mul-add, mul-assoc, mul-comm, mod-eq-of-lt, mod-eq-sub-mod, div-add-mod', mul-lt-mul-of-pos-right, lt-of-le-of-lt, lt-of-lt-of-le, mul-le-mul-left, le-of-lt, le-of-eq, le-trans, add-comm, suc-mul, lt-of-mul-lt-mul-right, le-of-suc-le-suc, mul-le-mul-right, mul-right-comm, mul-left-comm}
 use native.Mathlib.Omega.{arith}
-use mathlib.Core.Bool.{Bool, true, false, cond}
-use lib.Dec.{T, ltb, lt→ltb, ltb→lt}
+use mathlib.Core.Bool.{Bool, cond}
+use lib.Dec.{ltb, lt→ltb, ltb→lt}
 use lib.Arith.{le→nltb, lt-of-le-ne}
 use lib.Pow.{pow-add, pow-pos}
 use lib.Ieee.Bits.{is-true, is-false}
@@ -39,12 +39,6 @@ carried m a b r p q e = elim (less-or-not (a + b) m) [
 
 pub mul-lt-pow : (i j : ℕ) {x y : ℕ} → x < 2 ^ i → y < 2 ^ j → x * y < 2 ^ (i + j)
 mul-lt-pow i j {x} {y} p q = lt-of-le-of-lt (mul-le-mul-left x (le-of-lt q)) (lt-of-lt-of-le (mul-lt-mul-of-pos-right p (pow-pos j)) (le-of-eq (sym (pow-add 2 i j))))
-
-pub flag-le : (a b : ℕ) → flag a b ≤ 1
-flag-le a b = elim (less-or-not a b) [
-  | inl l ↦ le-of-eq (flag-yes a b l)
-  | inr g ↦ le-trans (le-of-eq (flag-no a b g)) zero-le
-]
 
 -- ---- two columns to the base m
 

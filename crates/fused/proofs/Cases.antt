@@ -1,8 +1,8 @@
 -- The sum of two placed numbers, one of them shifted with a sticky last bit: what the branches of `aligned` come to. Assumes nothing.
-use mathlib.Core.Path.{_≡_, refl, sym, ap, ap₂, _∙_, subst}
-use mathlib.Core.Logic.{_⊎_, inl, inr}
-use Prim.Native.Nat.{ℕ, zero, suc, _+_, _-_, _*_, _/_, _%_, _^_, _≤_, _<_}
-use native.Mathlib.Nat.{le-of-eq, le-of-lt, le-trans, lt-of-lt-of-le, lt-of-le-of-lt, lt-irrefl, mul-assoc, mul-comm, one-mul, mul-one, add-mul, mul-lt-mul-of-pos-right, mul-le-mul-right, zero-mul, zero-add, le-add-right, mul-le-mul-left, lt-of-mul-lt-mul-right}
+use mathlib.Core.Path.{_≡_, refl, sym, ap, _∙_, subst}
+use mathlib.Core.Logic.{inl, inr}
+use Prim.Native.Nat.{ℕ, zero, suc, _+_, _-_, _*_, _%_, _^_, _≤_, _<_}
+use native.Mathlib.Nat.{le-of-lt, le-trans, lt-of-lt-of-le, lt-of-le-of-lt, mul-assoc, mul-comm, one-mul, add-mul, mul-lt-mul-of-pos-right, zero-mul, zero-add, le-add-right, mul-le-mul-left, lt-of-mul-lt-mul-right}
 use native.Mathlib.Omega.{arith}
 use mathlib.Core.Bool.{Bool, true, false, not, Bool·beq}
 use lib.Dec.{T, lit<, lit≤, ltb, ltb→lt, nltb→le}
@@ -12,7 +12,7 @@ use lib.Ieee.{Float, fin, binary64, round, ofBits}
 use lib.Ieee as Ieee
 use Rattle.rounding.specs.Sticky.{Sticky}
 use Rattle.rounding.proofs.Numbers.{less-or-not, sub-mul}
-use Rattle.rounding.proofs.Sticky.{sticky-add, sticky-from, sticky-less, sticky-below, sticky-above, sticky-le}
+use Rattle.rounding.proofs.Sticky.{sticky-add, sticky-from, sticky-less, sticky-below, sticky-above}
 use Rattle.rounding.proofs.Sums.{sum-like, sum-more, sum-less, sum-none}
 use Rattle.rounding.proofs.Values.{round-shift, round-zero}
 use Rattle.fused.specs.Words.{Placed}

@@ -1,18 +1,18 @@
 -- The common case: words as floats. What the functions of src/near.rt come to. Assumes nothing.
 use mathlib.Core.Path.{_≡_, refl, sym, ap, ap₂, _∙_, subst}
-use mathlib.Core.Logic.{_⊎_, inl, inr}
-use Prim.Native.Nat.{ℕ, zero, suc, _+_, _-_, _*_, _/_, _%_, _^_, _≤_, _<_}
-use native.Mathlib.Nat.{le-of-eq, le-of-lt, le-trans, lt-of-lt-of-le, lt-of-le-of-lt, one-mul, mul-one, mul-assoc, mul-comm, mul-right-comm, add-mul, mul-pos, mul-le-mul-right, mul-le-mul-left, mul-lt-mul-of-pos-right, div-add-mod', zero-lt-suc, add-zero, le-add-right, eq-zero-or-pos}
+use mathlib.Core.Logic.{inl, inr}
+use Prim.Native.Nat.{ℕ, suc, _+_, _-_, _*_, _/_, _%_, _^_, _≤_, _<_}
+use native.Mathlib.Nat.{le-of-eq, le-of-lt, lt-of-lt-of-le, lt-of-le-of-lt, one-mul, mul-assoc, add-mul, mul-lt-mul-of-pos-right, div-add-mod', zero-lt-suc, le-add-right, eq-zero-or-pos}
 use native.Mathlib.Omega.{arith}
 use mathlib.Core.Bool.{Bool, true, false, not, cond}
-use lib.Dec.{T, leb, ltb, lit<, lit≤, le→leb, lt→ltb}
+use lib.Dec.{T, leb, ltb, lit≤, le→leb, lt→ltb}
 use lib.Arith.{lt→nleb, le→nltb}
 use lib.IntN.{ℤ, pos, negsuc, _-ℤ_, subℕ}
-use lib.Pow.{pow-add, pow-pos, pow-mono, pow-lt, shr-shr, shl-lt}
+use lib.Pow.{pow-add, pow-pos, pow-mono, shr-shr, shl-lt}
 use mir.Syntax.{w64}
 use mir.Val.{SFits, toZ, ofZ}
 use mir.Facts.{toZ-pos, toZ-ofZ}
-use lib.Ieee.{Float, binary64, prec, emax, low, unlike, hid, ones, top, round, add, mul, ofInt, inFloat, ofBits, nanBits}
+use lib.Ieee.{Float, binary64, unlike, round, add, mul, ofInt, inFloat, ofBits}
 use lib.Ieee as Ieee
 use lib.Ieee.Back.{round-whole}
 use lib.Ieee.Bits.{is-true, is-false}

@@ -1,11 +1,11 @@
 -- From leading bits to a rounded fraction: what the steps of src/pack.rt come to. Assumes nothing.
 use mathlib.Core.Path.{_≡_, refl, sym, ap, ap₂, _∙_, subst}
-use mathlib.Core.Logic.{_⊎_, inl, inr}
-use Prim.Native.Nat.{ℕ, zero, suc, _+_, _-_, _*_, _/_, _%_, _^_, _≤_, _<_, compare, Ordering, Ordering·lt, Ordering·eq, Ordering·gt, min}
-use native.Mathlib.Nat.{le-of-eq, le-trans, lt-of-lt-of-le, mul-assoc, mul-comm, mul-right-comm, mul-pos, add-mul, mod-lt, mod-eq-of-lt, div-add-mod', eq-zero-or-pos, lt-of-mul-lt-mul-right, mul-le-mul-right, add-zero, zero-mul, le-antisymm, add-comm, le-add-right}
+use mathlib.Core.Logic.{inl, inr}
+use Prim.Native.Nat.{ℕ, suc, _+_, _-_, _*_, _/_, _%_, _^_, _≤_, _<_, compare, min}
+use native.Mathlib.Nat.{le-of-eq, le-trans, mul-assoc, mul-comm, mul-right-comm, mul-pos, add-mul, mod-lt, mod-eq-of-lt, div-add-mod', eq-zero-or-pos, lt-of-mul-lt-mul-right, mul-le-mul-right, add-zero, zero-mul, le-antisymm, le-add-right}
 use native.Mathlib.Omega.{arith}
-use mathlib.Core.Bool.{Bool, not, cond}
-use lib.Dec.{T, isLe, isEq, lit<, lit≤, leb→le, nleb→lt, eqb→eq}
+use mathlib.Core.Bool.{Bool, cond}
+use lib.Dec.{lit≤}
 use lib.Arith.{digits-lt}
 use lib.Pow.{pow-add, pow-pos, shr-lt, shr-shr, shl-lt}
 use lib.Count.{leadingZeros, leading-top}

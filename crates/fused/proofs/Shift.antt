@@ -1,12 +1,10 @@
 -- Shifts to the right that keep a sticky last bit, of one word and of two. Assumes nothing.
 use mathlib.Core.Path.{_≡_, refl, sym, ap, ap₂, _∙_, subst}
-use mathlib.Core.Logic.{_⊎_, inl, inr}
-use Prim.Native.Nat.{ℕ, zero, suc, _+_, _-_, _*_, _/_, _%_, _^_, _≤_, _<_}
-use native.Mathlib.Nat.{le-of-eq, le-trans, lt-of-le-of-lt, lt-of-lt-of-le, add-mul, add-assoc, add-zero, mul-assoc, mul-comm, mul-right-comm, mul-one, mod-eq-of-lt, mod-lt, mul-mod-left, mul-div-cancel, div-mul-le-self, div-add-mod', add-sub-cancel-left, one-mul, zero-mul, zero-add}
+use Prim.Native.Nat.{ℕ, _+_, _-_, _*_, _/_, _%_, _^_, _≤_, _<_}
+use native.Mathlib.Nat.{le-of-eq, le-trans, lt-of-le-of-lt, lt-of-lt-of-le, add-mul, add-zero, mul-assoc, mul-comm, mul-right-comm, mod-eq-of-lt, mod-lt, mul-mod-left, mul-div-cancel, div-mul-le-self, div-add-mod', zero-mul, zero-add}
 use native.Mathlib.Omega.{arith}
-use lib.Dec.{lit<}
 use lib.Arith.{digits-lt, mod-mul}
-use lib.Pow.{pow-add, pow-pos, pow-mono, pow-lt, shr-lt}
+use lib.Pow.{pow-add, pow-pos, pow-mono, shr-lt}
 use Rattle.rounding.specs.Sticky.{Sticky}
 use Rattle.rounding.proofs.Sticky.{sticky-cut, sticky-again}
 

@@ -1,14 +1,14 @@
 -- A float's magnitude with its leading digit at bit 62, and where the product and the addend are placed. Assumes nothing.
 use mathlib.Core.Path.{_≡_, refl, sym, ap, ap₂, _∙_, subst}
-use mathlib.Core.Logic.{_⊎_, inl, inr}
+use mathlib.Core.Logic.{inl, inr}
 use Prim.Native.Nat.{ℕ, zero, suc, _+_, _-_, _*_, _/_, _%_, _^_, _≤_, _<_}
-use native.Mathlib.Nat.{le-of-eq, le-trans, lt-of-lt-of-le, lt-of-le-of-lt, mul-assoc, mul-comm, mul-left-comm, mul-right-comm, mul-one, mul-pos, mul-mod-left, mod-eq-of-lt, mod-lt, mul-le-mul, mul-le-mul-right, mul-lt-mul-of-pos-right, eq-zero-or-pos, le-add-right}
+use native.Mathlib.Nat.{le-trans, lt-of-lt-of-le, mul-assoc, mul-left-comm, mul-pos, mul-mod-left, mod-eq-of-lt, mod-lt, mul-le-mul, mul-le-mul-right, mul-lt-mul-of-pos-right, eq-zero-or-pos, le-add-right}
 use native.Mathlib.Omega.{arith}
 use mathlib.Core.Bool.{Bool, true}
 use lib.Dec.{T, leb, lit≤}
 use lib.Pow.{pow-add, pow-pos, pow-mono, shl-lt}
 use lib.Count.{leadingZeros}
-use lib.Ieee.{Float, binary64, ones, top, sum, fits, ofBits, toBits}
+use lib.Ieee.{Float, binary64, ones, top, sum, fits, toBits}
 use lib.Ieee.Bits.{ofBits-toBits}
 use lib.Ieee.Exact.{HasValue}
 use lib.Ieee.Scale.{finite}

@@ -1,11 +1,10 @@
 -- The definition of the fused multiply-add by its operands' values, and the operands for which no sum of whole numbers is worked out. Assumes nothing.
 use mathlib.Core.Path.{_≡_, refl, sym, ap, ap₂, _∙_, subst}
 use mathlib.Core.Logic.{_⊎_, inl, inr}
-use Prim.Native.Nat.{ℕ, zero, suc, _+_, _-_, _*_, _/_, _%_, _^_, _≤_, _<_}
+use Prim.Native.Nat.{ℕ, _+_, _-_, _*_, _<_}
 use native.Mathlib.Nat.{mul-pos, mul-assoc, mul-comm, mul-left-comm, mul-right-comm, zero-mul, add-zero, sub-zero, eq-of-mul-eq-mul-right}
-use native.Mathlib.Omega.{arith}
-use mathlib.Core.Bool.{Bool, true, false, not, _&&_, _||_, cond, Bool·beq}
-use lib.IntN.{ℤ, pos, negsuc, _+ℤ_}
+use mathlib.Core.Bool.{Bool, true, false, not, _&&_, _||_, Bool·beq}
+use lib.IntN.{pos, _+ℤ_}
 use lib.Dec.{T, eqb, eqb-refl}
 use lib.Ieee.{Float, nan, inf, fin, Format, binary64, unlike, up, down, round, neg, sum, add, sub, mul, eq, isNan, ofBits}
 use lib.Ieee.Bits.{is-true}

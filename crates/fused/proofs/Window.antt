@@ -1,8 +1,8 @@
 -- The common case: the biased sum, and what its conversion comes to. Assumes nothing.
 use mathlib.Core.Path.{_≡_, refl, sym, ap, ap₂, _∙_, subst}
 use mathlib.Core.Logic.{_⊎_, inl, inr}
-use Prim.Native.Nat.{ℕ, zero, suc, _+_, _-_, _*_, _/_, _%_, _^_, _≤_, _<_}
-use native.Mathlib.Nat.{le-trans, le-add-right, lt-of-le-of-lt, lt-of-lt-of-le, lt-of-mul-lt-mul-right, add-mul, mul-assoc, mul-comm, mul-left-comm, mul-lt-mul-of-pos-right, mod-eq-of-lt}
+use Prim.Native.Nat.{ℕ, _+_, _-_, _*_, _/_, _%_, _^_, _≤_, _<_}
+use native.Mathlib.Nat.{le-add-right, lt-of-le-of-lt, lt-of-lt-of-le, lt-of-mul-lt-mul-right, add-mul, mul-assoc, mul-left-comm, mul-lt-mul-of-pos-right, mod-eq-of-lt}
 use native.Mathlib.Omega.{arith}
 use mathlib.Core.Bool.{Bool, true, false, not, cond, Bool·beq}
 use lib.Dec.{leb, lit≤}

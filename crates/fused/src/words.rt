@@ -15,7 +15,7 @@ pub struct Words {
 // 1 where a is below b, and 0 elsewhere: the carry of a sum that came out below a summand, and the
 // borrow of a difference.
 pub fn below(a: u64, b: u64) -> u64
-    ensures { λ r. ⌜ r ≡ flag a b ⌝ }
+    ensures { λ r. ⌜ (r ≡ flag a b) × (r ≤ 1) ⌝ }
 {
     if a < b { 1 } else { 0 }
 }

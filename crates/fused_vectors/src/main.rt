@@ -44,7 +44,11 @@ fn same(x: f64, bits: u64) -> bool {
 }
 
 fn agrees(line: &[u8; 68]) -> bool {
-    let r = fused::mul_add(float(number(line, 0)), float(number(line, 17)), float(number(line, 34)));
+    let r = fused::mul_add(
+        float(number(line, 0)),
+        float(number(line, 17)),
+        float(number(line, 34)),
+    );
     same(r, number(line, 51))
 }
 
@@ -81,7 +85,10 @@ fn replay() -> Tally {
         unlike += line;
         lines += 1;
     }
-    Tally { lines: lines, unlike: unlike }
+    Tally {
+        lines: lines,
+        unlike: unlike,
+    }
 }
 
 fn main() {

@@ -1,5 +1,5 @@
 -- Facts about natural numbers that the files beside this one share. Assumes nothing.
-use mathlib.Core.Path.{_≡_, refl, sym, ap, ap₂, _∙_, subst}
+use mathlib.Core.Path.{_≡_, refl, ap₂, _∙_, subst}
 use mathlib.Core.Logic.{_⊎_, inl, inr}
 use Prim.Native.Nat.{ℕ, suc, _-_, _*_, _/_, _≤_, _<_, compare, Ordering, Ordering·lt, Ordering·eq, Ordering·gt}
 use native.Mathlib.Nat.{mul-sub, mul-comm, le-antisymm, le-of-suc-le-suc, div-lt-iff-lt-mul, le-div-iff-mul-le}

@@ -2,11 +2,11 @@
 -- field, and from the infinity's pattern on it is the infinity's. Assumes nothing.
 use mathlib.Core.Path.{_≡_, refl, sym, ap, ap₂, _∙_, subst}
 use mathlib.Core.Logic.{_⊎_, inl, inr}
-use Prim.Native.Nat.{ℕ, zero, suc, _+_, _-_, _*_, _/_, _%_, _^_, _≤_, _<_, min}
-use native.Mathlib.Nat.{le-trans, le-of-eq, le-antisymm, lt-of-lt-of-le, lt-of-le-of-lt, lt-irrefl, not-le-of-lt, le-of-suc-le-suc, lt-of-not-le, mul-comm, mul-one, mul-assoc, suc-mul, mul-le-mul-right, mul-le-mul-left, mul-div-cancel, le-of-mul-le-mul-right, add-assoc, add-mul, mul-le-mul, lt-of-mul-lt-mul-right, add-mod-left, mod-eq-of-lt, zero-add, min-eq-left, min-eq-right}
+use Prim.Native.Nat.{ℕ, suc, _+_, _-_, _*_, _/_, _%_, _^_, _≤_, _<_, min}
+use native.Mathlib.Nat.{le-trans, le-of-eq, le-antisymm, lt-of-lt-of-le, lt-of-le-of-lt, lt-irrefl, lt-of-not-le, mul-comm, suc-mul, mul-le-mul-right, mul-div-cancel, add-assoc, add-mul, mul-le-mul, lt-of-mul-lt-mul-right, add-mod-left, mod-eq-of-lt, zero-add, min-eq-left, min-eq-right}
 use native.Mathlib.Omega.{arith}
 use mathlib.Core.Bool.{Bool, true, false, not, cond}
-use lib.Dec.{T, lit<, ltb, ltb→lt, nltb→le}
+use lib.Dec.{T, lit<, ltb}
 use lib.Arith.{le→nltb}
 use lib.Pow.{pow-add, pow-pos, pow-mono, pow-lt, shl-lt}
 use lib.IntN.{ℤ}

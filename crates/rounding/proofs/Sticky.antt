@@ -1,11 +1,10 @@
 -- Laws of `Sticky`: how it comes about, what it goes through, and that rounding to a multiple of four sees no difference. Assumes nothing.
 use mathlib.Core.Path.{_≡_, refl, sym, ap, ap₂, _∙_, subst}
 use mathlib.Core.Logic.{_⊎_, inl, inr}
-use Prim.Native.Nat.{ℕ, zero, suc, _+_, _-_, _*_, _/_, _%_, _≤_, _<_, compare, Ordering, Ordering·lt, Ordering·eq, Ordering·gt}
-use native.Mathlib.Nat.{le-trans, le-of-eq, lt-of-lt-of-le, lt-of-le-of-lt, lt-irrefl, add-mul, suc-mul, mul-assoc, mul-comm, mul-right-comm, mul-left-comm, mul-pos, mul-one, mul-le-mul-left, mul-le-mul-right, mul-lt-mul-of-pos-right, div-add-mod', div-lt-iff-lt-mul, le-div-iff-mul-le, le-antisymm, le-of-lt, le-of-suc-le-suc, mod-lt, mul-mod-left, eq-zero-or-pos}
+use Prim.Native.Nat.{ℕ, suc, _+_, _-_, _*_, _/_, _%_, _≤_, _<_, compare}
+use native.Mathlib.Nat.{le-trans, le-of-eq, lt-of-lt-of-le, lt-of-le-of-lt, add-mul, suc-mul, mul-assoc, mul-comm, mul-right-comm, mul-left-comm, mul-pos, mul-one, mul-le-mul-left, mul-le-mul-right, mul-lt-mul-of-pos-right, div-add-mod', le-of-lt, mod-lt, mul-mod-left, eq-zero-or-pos}
 use native.Mathlib.Omega.{arith}
-use mathlib.Core.Bool.{not}
-use lib.Dec.{T, lit<, isLe, isEq, eqb, leb→le, nleb→lt, eqb→eq, eqb-refl}
+use lib.Dec.{lit<}
 use lib.Ieee.{nearest}
 use lib.Ieee.Nearest.{closest, closest-same}
 use Rattle.rounding.proofs.Numbers.{less-or-not, sub-mul, div-is, compare-lt, compare-gt}

@@ -1,13 +1,12 @@
 -- Laws of the kit's `sum`, which adds two fractions with their signs and rounds once. Assumes nothing.
 use mathlib.Core.Path.{_≡_, refl, sym, ap, ap₂, _∙_, subst}
-use mathlib.Core.Logic.{_⊎_, inl, inr}
-use Prim.Native.Nat.{ℕ, zero, suc, _+_, _-_, _*_, _≤_, _<_}
+use mathlib.Core.Logic.{inl, inr}
+use Prim.Native.Nat.{ℕ, _+_, _-_, _*_, _<_}
 use native.Mathlib.Nat.{add-mul, add-comm, mul-lt-mul-of-pos-right, lt-of-mul-lt-mul-right, sub-self, le-of-eq, le-of-lt, le-antisymm}
-use native.Mathlib.Omega.{arith}
 use mathlib.Core.Bool.{Bool, true, false, not, _&&_, Bool·beq, cond}
-use lib.Dec.{T, ltb, ltb→lt, lt→ltb, nltb→le}
+use lib.Dec.{T, ltb, ltb→lt, lt→ltb}
 use lib.Arith.{le→nltb}
-use lib.Ieee.{Float, Format, round, sum}
+use lib.Ieee.{Format, round, sum}
 use lib.Ieee.Bits.{is-true, is-false}
 use lib.Ieee.Scale.{round-same}
 use Rattle.rounding.proofs.Numbers.{less-or-not, sub-mul}

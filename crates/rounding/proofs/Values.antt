@@ -1,19 +1,18 @@
 -- The kit's operations by their operands' values: which number a bit pattern is, and that a product and a sum of values are the product and the
 -- sum of any fractions that the values equal. Assumes nothing.
 use mathlib.Core.Path.{_≡_, refl, sym, ap, ap₂, _∙_, subst}
-use mathlib.Core.Logic.{_⊎_, inl, inr, _≢_}
 use Prim.Native.Nat.{ℕ, zero, suc, _+_, _-_, _*_, _/_, _%_, _^_, _≤_, _<_, compare, compare·zero-zero, compare·zero-suc}
-use native.Mathlib.Nat.{zero-mul, mul-one, one-mul, mul-comm, mul-assoc, mul-left-comm, mul-right-comm, mul-pos, zero-div, zero-mod, eq-of-mul-eq-mul-right, mod-lt, div-lt-iff-lt-mul, zero-lt-suc, le-of-suc-le-suc}
+use native.Mathlib.Nat.{zero-mul, mul-one, one-mul, mul-comm, mul-assoc, mul-left-comm, mul-right-comm, mul-pos, zero-div, zero-mod, mod-lt, div-lt-iff-lt-mul, zero-lt-suc, le-of-suc-le-suc}
 use native.Mathlib.Omega.{arith}
-use mathlib.Core.Bool.{Bool, true, false, not, _&&_, cond}
+use mathlib.Core.Bool.{Bool, true, false, not, cond}
 use lib.IntN.{ℤ, pos, negsuc, _+ℤ_, subℕ}
 use lib.Dec.{T, leb, ltb, eqb, ltb→lt, nltb→le, not-T, eqb→eq}
 use lib.Arith.{lt-of-le-ne}
 use lib.Pow.{pow-add, pow-pos}
 use lib.Ieee.{Float, nan, inf, fin, Format, binary32, binary64, prec, emax, low, unlike, up, down, size, nearest, odd, units, round, sum, add, mul, hid, ones, top, ofFields, ofBits}
 use lib.Ieee.Digits.{size-le}
-use lib.Ieee.Fits.{round-is, up-pos, down-pos, eq→eqb}
-use lib.Ieee.Bits.{cond-no, is-true}
+use lib.Ieee.Fits.{round-is, down-pos, eq→eqb}
+use lib.Ieee.Bits.{cond-no}
 use lib.Ieee.Exact.{HasValue, odd-sign, round-exact}
 use lib.Ieee.Scale.{round-same, finite}
 use Rattle.rounding.specs.Weight.{weight}

@@ -1,8 +1,8 @@
 -- The bit pattern of a rounded fraction, worked out from a word that holds its leading digits, with a sticky last one. Assumes nothing.
-use mathlib.Core.Path.{_≡_, refl, sym, ap, ap₂, _∙_, subst}
+use mathlib.Core.Path.{_≡_, sym, ap, ap₂, _∙_, subst}
 use mathlib.Core.Logic.{_⊎_, inl, inr}
-use Prim.Native.Nat.{ℕ, zero, suc, _+_, _-_, _*_, _/_, _%_, _^_, _≤_, _<_, compare, min}
-use native.Mathlib.Nat.{le-trans, le-of-eq, le-antisymm, lt-of-lt-of-le, lt-of-le-of-lt, lt-irrefl, lt-of-not-le, mul-comm, mul-assoc, mul-left-comm, mul-right-comm, mul-pos, mul-le-mul-right, mul-lt-mul-of-pos-right, div-lt-iff-lt-mul, le-div-iff-mul-le, mul-mod-left, one-mul, mul-one, zero-lt-suc}
+use Prim.Native.Nat.{ℕ, suc, _+_, _-_, _*_, _/_, _%_, _^_, _≤_, _<_, compare, min}
+use native.Mathlib.Nat.{le-trans, le-of-eq, lt-of-lt-of-le, lt-irrefl, lt-of-not-le, mul-comm, mul-assoc, mul-left-comm, mul-pos, mul-le-mul-right, mul-lt-mul-of-pos-right, div-lt-iff-lt-mul, le-div-iff-mul-le, mul-mod-left, one-mul, mul-one, zero-lt-suc}
 use native.Mathlib.Omega.{arith}
 use mathlib.Core.Bool.{Bool, cond}
 use lib.Dec.{T}

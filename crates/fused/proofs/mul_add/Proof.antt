@@ -1,7 +1,6 @@
 -- In the common case the words converted are the sum of the magnitudes (`came`, `at-product`), which is what the definition asks of the operands (`fused-values`). Assumes nothing.
 use mathlib.Core.Path.{_≡_, sym, _∙_, subst}
 use Prim.Native.Nat.{_+_, _*_, _%_, _^_}
-use native.Mathlib.Omega.{arith}
 use native.Mathlib.Nat.{le-of-lt, le-of-suc-le-suc, le-trans, le-add-right, lt-of-lt-of-le}
 use mathlib.Core.Bool.{Bool, true}
 use lib.Dec.{T, leb, lit≤}

@@ -2,7 +2,6 @@
 use mathlib.Core.Path.{_∙_}
 use Prim.Native.Nat.{_+_, _*_, _^_}
 use native.Mathlib.Omega.{arith}
-use mathlib.Core.Bool.{Bool, not}
 use lib.Dec.{leb}
 use lib.Ieee.{binary64, unlike, top}
 use borrow.Author.Needs.{needs}

@@ -1,5 +1,5 @@
 -- Assumes nothing.
-use mathlib.Core.Path.{_≡_, sym, subst}
+use mathlib.Core.Path.{sym, subst}
 use mathlib.Core.Bool.{Bool, not}
 use lib.Dec.{T}
 use lib.Arith.{le→nltb}
@@ -9,8 +9,6 @@ use lib.Ieee.Bits.{nanBits-above}
 use borrow.Author.Needs.{needs}
 use Rattle.fused_vectors.proofs.float.Statement.{statement}
 use Rattle.fused_vectors.proofs.float.Tie as tie
-use Rattle.fused_vectors.proofs.float.Reads as reads
-use Rattle.fused_vectors.proofs.float.Lts as lts
 
 returns : tie.Need-returns
 returns c = search needs

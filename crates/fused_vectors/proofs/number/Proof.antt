@@ -3,9 +3,6 @@ use Prim.Native.Nat.{_-_, _≤_}
 use native.Mathlib.Omega.{arith}
 use Rattle.fused_vectors.proofs.number.Statement.{statement}
 use Rattle.fused_vectors.proofs.number.Tie as tie
-use Rattle.fused_vectors.proofs.number.Reads as reads
-use Rattle.fused_vectors.proofs.number.Lts as lts
-use Rattle.fused_vectors.proofs.digit.Reads as digit-reads
 
 abbrev Inv-loop : tie.InvT-loop
 Inv-loop line from n₀ i₀ n i = i ≤ 16

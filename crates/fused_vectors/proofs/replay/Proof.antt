@@ -3,9 +3,6 @@ use Prim.Native.Nat.{_-_, _≤_}
 use native.Mathlib.Omega.{arith}
 use Rattle.fused_vectors.proofs.replay.Statement.{statement}
 use Rattle.fused_vectors.proofs.replay.Tie as tie
-use Rattle.fused_vectors.proofs.replay.Reads as reads
-use Rattle.fused_vectors.proofs.replay.Lts as lts
-use Rattle.fused_vectors.proofs.next.Reads as next-reads
 
 abbrev Inv-loop : tie.InvT-loop
 Inv-loop lines₀ unlike₀ lines unlike = (unlike ≤ lines) × (lines ≤ 1000000)

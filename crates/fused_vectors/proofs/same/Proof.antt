@@ -1,14 +1,11 @@
 -- Assumes nothing.
 use mathlib.Core.Path.{_≡_, subst}
-use mathlib.Core.Bool.{true, false, not}
+use mathlib.Core.Bool.{false, not}
 use lib.Dec.{T}
 use lib.Ieee.{Float, nan, inf, fin, eq, ne, isNan}
 use borrow.Author.Needs.{needs}
 use Rattle.fused_vectors.proofs.same.Statement.{statement}
 use Rattle.fused_vectors.proofs.same.Tie as tie
-use Rattle.fused_vectors.proofs.same.Reads as reads
-use Rattle.fused_vectors.proofs.same.Lts as lts
-use Rattle.fused_vectors.proofs.is_nan.Reads as is-nan-reads
 
 number : (x : Float) → ne x x ≡ false → T (not (isNan x))
 unfolding ne eq isNan

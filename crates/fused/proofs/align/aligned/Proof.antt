@@ -1,11 +1,9 @@
 -- Each branch is a case of proofs/Cases.antt. Assumes nothing.
-use mathlib.Core.Path.{_≡_, sym, ap, ap₂, _∙_, subst}
-use Prim.Native.Nat.{ℕ, _+_, _-_, _*_, _^_, _≤_, _<_}
-use native.Mathlib.Nat.{le-of-lt, le-trans, le-antisymm, lt-of-le-of-lt}
-use native.Mathlib.Omega.{arith}
-use mathlib.Core.Bool.{Bool, true, false, not}
-use lib.Dec.{T, ltb, ltb→lt, nltb→le}
-use lib.Ieee.{Float, binary64, ofBits}
+use mathlib.Core.Path.{_≡_, sym, ap, _∙_, subst}
+use Prim.Native.Nat.{_+_, _-_, _*_, _^_}
+use native.Mathlib.Nat.{le-of-lt, le-antisymm}
+use mathlib.Core.Bool.{Bool}
+use lib.Ieee.{binary64}
 use lib.Ieee as Ieee
 use lib.Pow.{pow-pos}
 use borrow.Author.Needs.{needs}

@@ -1,6 +1,6 @@
 -- Assumes nothing.
 use mathlib.Core.Path.{_≡_, ap, _∙_}
-use Prim.Native.Nat.{ℕ, _+_, _-_, _*_, _^_, _≤_, _<_}
+use Prim.Native.Nat.{ℕ, _+_, _-_, _*_, _^_, _≤_}
 use native.Mathlib.Omega.{arith}
 use native.Mathlib.Nat.{le-of-lt}
 use lib.Ieee.{binary64}

@@ -1,7 +1,6 @@
 -- Assumes nothing.
 use mathlib.Core.Path.{refl}
 use Prim.Native.Nat.{_+_, _*_, _%_, _^_}
-use native.Mathlib.Omega.{arith}
 use native.Mathlib.Nat.{lt-of-lt-of-le, le-of-suc-le-suc}
 use lib.Dec.{lit≤}
 use borrow.Author.Needs.{needs}

@@ -2,7 +2,6 @@
 use Prim.Native.Nat.{_*_, _^_}
 use native.Mathlib.Nat.{mod-lt}
 use lib.Pow.{pow-pos}
-use native.Mathlib.Omega.{arith}
 use borrow.Author.Needs.{needs}
 use Rattle.fused.proofs.Convert.{lifted-is}
 use Rattle.fused.proofs.near.lifted.Statement.{statement}

@@ -1,5 +1,5 @@
 -- Assumes nothing.
-use mathlib.Core.Path.{_≡_, sym, subst}
+use mathlib.Core.Path.{sym, subst}
 use mathlib.Core.Logic.{inl, inr}
 use Prim.Native.Nat.{_+_, _^_}
 use lib.Dec.{T, leb→le}

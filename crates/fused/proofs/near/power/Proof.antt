@@ -1,5 +1,5 @@
 -- Assumes nothing.
-use mathlib.Core.Path.{_≡_, sym, subst}
+use mathlib.Core.Path.{sym, subst}
 use Prim.Native.Nat.{ℕ, _+_, _*_, _^_}
 use native.Mathlib.Nat.{mul-le-mul-right, le-of-lt, zero-add}
 use mathlib.Core.Bool.{Bool, true, false, not}

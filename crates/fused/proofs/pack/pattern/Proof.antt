@@ -1,11 +1,11 @@
 -- Assumes nothing.
 use mathlib.Core.Path.{_≡_, sym, ap, ap₂, _∙_, subst}
-use Prim.Native.Nat.{ℕ, _+_, _*_, _^_, _≤_, _<_, min}
+use Prim.Native.Nat.{ℕ, _+_, _*_, _^_, min}
 use native.Mathlib.Nat.{min-le-right, le-trans, le-of-eq, zero-add}
 use native.Mathlib.Omega.{arith}
 use mathlib.Core.Bool.{Bool, true, false, not, cond}
 use lib.Dec.{T}
-use lib.Ieee.{Float, binary64, hid, ones, top, ofBits, nanBits}
+use lib.Ieee.{binary64, hid, ones, top, ofBits, nanBits}
 use lib.Ieee.Nearest.{closest}
 use borrow.Author.Needs.{needs}
 use Rattle.rounding.proofs.Pattern.{no-nan}

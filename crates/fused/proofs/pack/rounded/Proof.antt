@@ -1,6 +1,5 @@
 -- Assumes nothing.
 use mathlib.Core.Path.{_∙_}
-use native.Mathlib.Omega.{arith}
 use borrow.Author.Needs.{needs}
 use Rattle.fused.proofs.Round.{rounded-low, rounded-high}
 use Rattle.fused.proofs.pack.rounded.Statement.{statement}

@@ -17,7 +17,7 @@ sub-t7 c =
     let a = c .before .before .args in
     let fits = c .before .before .fits in
     let room = borrow-room (2 ^ 64) (a .xh) (a .xl) (a .yh) (a .yl) (c .before .wrapping-sub-u64 .result) (c .before .wrapping-sub-u64 .ok) (fits .xl .fits) (fits .yl .fits) (c .before .before .pre)
-    (c .before .wrapping-sub-u64 .ensures) (c .below .result) (c .below .ensures) in
+    (c .before .wrapping-sub-u64 .ensures) (c .below .result) (c .below .ensures .0) in
     omega (arith, room)
 
 sub-t8 : tie.Need-sub-t8
@@ -25,7 +25,7 @@ sub-t8 c =
     let a = c .before .before .args in
     let fits = c .before .before .fits in
     let room = borrow-room (2 ^ 64) (a .xh) (a .xl) (a .yh) (a .yl) (c .before .wrapping-sub-u64 .result) (c .before .wrapping-sub-u64 .ok) (fits .xl .fits) (fits .yl .fits) (c .before .before .pre)
-    (c .before .wrapping-sub-u64 .ensures) (c .below .result) (c .below .ensures) in
+    (c .before .wrapping-sub-u64 .ensures) (c .below .result) (c .below .ensures .0) in
     omega (arith, room)
 
 returns : tie.Need-returns
@@ -33,7 +33,7 @@ returns c =
     let a = c .before .before .args in
     let fits = c .before .before .fits in (
       subtracted (2 ^ 64) (a .xh) (a .xl) (a .yh) (a .yl) (c .before .wrapping-sub-u64 .result) (c .before .wrapping-sub-u64 .ok) (fits .xl .fits) (fits .yl .fits) (c .before .before .pre)
-          (c .before .wrapping-sub-u64 .ensures) (c .below .result) (c .below .ensures),
+          (c .before .wrapping-sub-u64 .ensures) (c .below .result) (c .below .ensures .0),
       c .before .wrapping-sub-u64 .ok,
     )
 

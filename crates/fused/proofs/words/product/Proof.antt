@@ -7,7 +7,7 @@ use borrow.Author.Needs.{needs}
 use lib.Pow.{pow-pos, shl-lt, shr-lt, add-lt-pow}
 use lib.Dec.{lit≤}
 use mir.Facts.{fits-bits}
-use Rattle.fused.proofs.Carry.{carried, multiplied, mul-lt-pow, flag-le}
+use Rattle.fused.proofs.Carry.{carried, multiplied, mul-lt-pow}
 use Rattle.fused.proofs.words.product.Statement.{statement}
 use Rattle.fused.proofs.words.product.Tie as tie
 
@@ -55,16 +55,14 @@ add-t14 c =
     let a = c .before .before .args in
     let p = c .before .before .pre in
     let l = columns (a .a) (a .b) (p .0) (p .1) in
-    let k = c .below .ensures in
-    let m = flag-le (c .before .wrapping-add-u64 .result) (a .a % 2 ^ 32 * (a .b % 2 ^ 32)) in
-    omega (arith, l, k, m)
+    omega (arith, l, c .below .ensures .1)
 
 returns : tie.Need-returns
 returns c =
     let a = c .before .before .args in
     let low = c .before .wrapping-add-u64 .result in
     multiplied (2 ^ 32) (a .a) (a .b) (c .below .result) low
-    (ap (λ (k : ℕ). k * 2 ^ 64 + low) (c .below .ensures)
+    (ap (λ (k : ℕ). k * 2 ^ 64 + low) (c .below .ensures .0)
     ∙ carried (2 ^ 64) (a .a % 2 ^ 32 * (a .b % 2 ^ 32)) ((a .a / 2 ^ 32 * (a .b % 2 ^ 32) + a .a % 2 ^ 32 * (a .b / 2 ^ 32)) % 2 ^ 32 * 2 ^ 32) low
     (mul-lt-pow 32 32 (lower (a .a)) (lower (a .b)))
     (shl-lt 32 32 (lower (a .a / 2 ^ 32 * (a .b % 2 ^ 32) + a .a % 2 ^ 32 * (a .b / 2 ^ 32))))

@@ -1,5 +1,5 @@
 -- Assumes nothing.
-use mathlib.Core.Path.{_≡_, sym, ap, _∙_, subst}
+use mathlib.Core.Path.{sym, ap, _∙_, subst}
 use mathlib.Core.Logic.{inl}
 use Prim.Native.Nat.{ℕ, _+_, _*_, _^_}
 use native.Mathlib.Nat.{mul-one, zero-add, le-of-lt}

@@ -2,7 +2,7 @@
 use native.Mathlib.Omega.{arith}
 use Prim.Native.Nat.{_^_}
 use borrow.Author.Needs.{needs}
-use Rattle.fused.proofs.Carry.{added, flag-le}
+use Rattle.fused.proofs.Carry.{added}
 use Rattle.fused.proofs.words.sum.Statement.{statement}
 use Rattle.fused.proofs.words.sum.Tie as tie
 
@@ -16,14 +16,14 @@ add-t7 : tie.Need-add-t7
 add-t7 c = search needs
 
 add-t8 : tie.Need-add-t8
-add-t8 c = let k = c .below .ensures in let l = flag-le (c .before .wrapping-add-u64 .result) (c .before .before .args .xl) in omega (arith, c .before .before .pre, k, l)
+add-t8 c = omega (arith, c .before .before .pre, c .below .ensures .1)
 
 returns : tie.Need-returns
 returns c =
     let a = c .before .before .args in
     let fits = c .before .before .fits in (
       added (2 ^ 64) (a .xh) (a .xl) (a .yh) (a .yl) (c .before .wrapping-add-u64 .result) (fits .xl .fits) (fits .yl .fits) (c .before .wrapping-add-u64 .ensures)
-          (c .below .result) (c .below .ensures),
+          (c .below .result) (c .below .ensures .0),
       c .before .wrapping-add-u64 .ok,
     )
 
