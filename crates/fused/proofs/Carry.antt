@@ -1,8 +1,8 @@
 -- Sums modulo a base, with their carry. Assumes nothing.
 use mathlib.Core.Path.{_≡_, sym, ap, ap₂, _∙_}
 use mathlib.Core.Logic.{inl, inr}
-use Prim.Native.Nat.{ℕ, _+_, _-_, _*_, _/_, _%_, _^_, _≤_, _<_, zero-le}
-use native.Mathlib.Nat.{zero-mul, one-mul, zero-add, add-mul, mul-add, mul-assoc, mul-comm, mod-eq-of-lt, mod-eq-sub-mod, div-add-mod', mul-lt-mul-of-pos-right, lt-of-le-of-lt, lt-of-lt-of-le, mul-le-mul-left, le-of-lt, le-of-eq, le-trans, add-comm, suc-mul, lt-of-mul-lt-mul-right, le-of-suc-le-suc, mul-le-mul-right, mul-right-comm, mul-left-comm}
+use Prim.Native.Nat.{ℕ, _+_, _-_, _*_, _/_, _%_, _^_, _≤_, _<_}
+use native.Mathlib.Nat.{zero-mul, one-mul, zero-add, add-mul, mul-add, mul-assoc, mod-eq-of-lt, mod-eq-sub-mod, div-add-mod', mul-lt-mul-of-pos-right, lt-of-le-of-lt, lt-of-lt-of-le, mul-le-mul-left, le-of-lt, le-of-eq, add-comm, suc-mul, lt-of-mul-lt-mul-right, le-of-suc-le-suc, mul-le-mul-right, mul-right-comm, mul-left-comm}
 use native.Mathlib.Omega.{arith}
 use mathlib.Core.Bool.{Bool, cond}
 use lib.Dec.{ltb, lt→ltb, ltb→lt}
@@ -86,7 +86,7 @@ multiplied n a b k l e =
         omega (arith, i, j, o, p, q, s, e)
       where
         crossed : (w x y z : ℕ) → w * x * (y * z) ≡ w * y * (x * z)
-        crossed w x y z = simp (mul-assoc, mul-comm, mul-left-comm)
+        crossed w x y z = simp (mul-assoc, mul-left-comm)
 
 -- ---- the order of two numbers of two digits
 

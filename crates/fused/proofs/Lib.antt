@@ -4,5 +4,6 @@ pub mod Round
 pub mod Cases
 pub mod Values
 pub mod Unpack
+pub mod Operands
 pub mod Convert
 pub mod Window

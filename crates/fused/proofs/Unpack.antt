@@ -4,18 +4,14 @@ use mathlib.Core.Logic.{inl, inr}
 use Prim.Native.Nat.{ℕ, zero, suc, _+_, _-_, _*_, _/_, _%_, _^_, _≤_, _<_}
 use native.Mathlib.Nat.{le-trans, lt-of-lt-of-le, mul-assoc, mul-left-comm, mul-pos, mul-mod-left, mod-eq-of-lt, mod-lt, mul-le-mul, mul-le-mul-right, mul-lt-mul-of-pos-right, eq-zero-or-pos, le-add-right}
 use native.Mathlib.Omega.{arith}
-use mathlib.Core.Bool.{Bool, true}
-use lib.Dec.{T, leb, lit≤}
+use mathlib.Core.Bool.{Bool}
+use lib.Dec.{lit≤}
 use lib.Pow.{pow-add, pow-pos, pow-mono, shl-lt}
 use lib.Count.{leadingZeros}
-use lib.Ieee.{Float, binary64, ones, top, sum, fits, toBits}
-use lib.Ieee.Bits.{ofBits-toBits}
-use lib.Ieee.Exact.{HasValue}
-use lib.Ieee.Scale.{finite}
+use lib.Ieee.{binary64, sum}
 use Rattle.rounding.specs.Weight.{weight}
 use Rattle.rounding.proofs.Numbers.{less-or-not}
 use Rattle.rounding.proofs.Sums.{sum-same}
-use Rattle.rounding.proofs.Values.{finite-field, bits-value}
 use Rattle.fused.specs.Parts.{field, magnitude}
 use Rattle.fused.specs.Words.{Placed}
 use Rattle.fused.proofs.Carry.{mul-lt-pow}
@@ -188,13 +184,7 @@ magnitudes s u m₁ m₂ m₃ d₁ e₁ d₂ e₂ d₃ e₃ y h o p q r =
         ∙ mul-assoc m₃ (2 ^ 62) (2 ^ 63 * 2 ^ 1073 * 2 ^ 2148)
         ∙ sym (mul-assoc m₃ (2 ^ 1074) (2 ^ 2272))
 
--- ---- a finite float by its bits
-
-pub field-lt : (x : Float) → T (fits binary64 x) → finite x ≡ true → field (toBits binary64 x) < ones binary64
-field-lt x fit fine = finite-field binary64 (toBits binary64 x) (subst T (sym (ap finite (ofBits-toBits binary64 x fit) ∙ fine)) tt)
-
-pub float-value : (x : Float) → T (fits binary64 x) → field (toBits binary64 x) < ones binary64 → HasValue x (leb (top binary64) (toBits binary64 x)) (magnitude (toBits binary64 x)) (2 ^ 1074)
-float-value x fit l = subst (λ (v : Float). HasValue v (leb (top binary64) (toBits binary64 x)) (magnitude (toBits binary64 x)) (2 ^ 1074)) (ofBits-toBits binary64 x fit) (bits-value binary64 (toBits binary64 x) l)
+-- ---- zero, and not
 
 pub magnitude-zero : (b : ℕ) → b % 2 ^ 63 ≡ 0 → magnitude b ≡ 0
 magnitude-zero b h = sym (weight-zero (field b) (b % 2 ^ 52) (none b h)) ∙ low b h

@@ -2,7 +2,7 @@
 use mathlib.Core.Path.{_≡_, refl, sym, ap, ap₂, _∙_, subst}
 use mathlib.Core.Logic.{_⊎_, inl, inr}
 use Prim.Native.Nat.{ℕ, _+_, _-_, _*_, _/_, _%_, _^_, _≤_, _<_}
-use native.Mathlib.Nat.{le-add-right, lt-of-le-of-lt, lt-of-lt-of-le, lt-of-mul-lt-mul-right, add-mul, mul-assoc, mul-left-comm, mul-lt-mul-of-pos-right, mod-eq-of-lt}
+use native.Mathlib.Nat.{le-trans, le-of-lt, le-add-right, lt-of-le-of-lt, lt-of-lt-of-le, lt-of-mul-lt-mul-right, add-mul, mul-assoc, mul-left-comm, mul-lt-mul-of-pos-right, mod-eq-of-lt}
 use native.Mathlib.Omega.{arith}
 use mathlib.Core.Bool.{Bool, true, false, not, cond, Bool·beq}
 use lib.Dec.{leb, lit≤}
@@ -11,7 +11,7 @@ use lib.Ieee.{Float, binary64, unlike, top, round}
 use lib.Ieee as Ieee
 use Rattle.rounding.proofs.Numbers.{sub-mul}
 use Rattle.rounding.proofs.Sums.{sum-same, sum-like, sum-more, sum-less}
-use Rattle.fused.specs.Parts.{field, magnitude, Common, Nonzero, summed, Converts}
+use Rattle.fused.specs.Parts.{field, magnitude, Common, Nonzero, summed, biasedSum, Converts}
 use Rattle.fused.proofs.Carry.{mul-lt-pow}
 use Rattle.fused.proofs.Cases.{signs-like, signs-unlike}
 use Rattle.fused.proofs.Unpack.{weight-more, low-lt}
@@ -166,3 +166,13 @@ is-common x y z r (a, b, c, d, k) w =
   where
     under : (f g : ℕ) → f < 1500 → g < 1500 → f + g < 3000
     under f g b d = omega arith
+
+-- The words converted are the sum of the magnitudes: what the common case comes to.
+pub common-sum : (x y z n h l : ℕ) (r : Float) → Common x y z → field z + 1075 - (field x + field y) ≡ n → n ≤ 62 → l < 2 ^ 64
+    → h * 2 ^ 64 + l ≡ biasedSum (Bool·beq (unlike (leb (2 ^ 63) x) (leb (2 ^ 63) y)) (leb (2 ^ 63) z)) x y z n → Converts (unlike (leb (2 ^ 63) x) (leb (2 ^ 63) y)) h l (field x + field y) r
+    → (2 ^ 51 + 4 ≤ h) ⊎ (h + 4 ≤ 2 ^ 51) → r ≡ summed x y z
+common-sum x y z n h l r w e m k y′ t f =
+    let p = (2 ^ 52 + x % 2 ^ 52) * (2 ^ 52 + y % 2 ^ 52) in
+    let c = (2 ^ 52 + z % 2 ^ 52) * 2 ^ n in
+    came (unlike (leb (2 ^ 63) x) (leb (2 ^ 63) y)) p c h l (field x + field y) r k t f (leb (2 ^ 63) z) (le-trans (le-of-lt (addend-lt z n m)) (le-add-right (2 ^ 115) p)) y′
+    ∙ sym (at-product x y z n w e)

@@ -12,6 +12,12 @@ mod near;
 mod pack;
 mod words;
 
+// The weight of a float's sign bit, and of its exponent's field: which is that of the leading digit, too, where
+// the digits are a whole number.
+const SIGN: u64 = 0x8000_0000_0000_0000;
+
+const HIDDEN: u64 = 0x10_0000_0000_0000;
+
 // The magnitude of a float: `digits` * 2^`exponent` / 2^1136.
 struct Parts {
     digits: u64,
@@ -23,8 +29,8 @@ fn unpacked(bits: u64) -> Parts
     requires { ⌜ Nonzero bits ⌝ }
     ensures { λ r. ⌜ (r .digits * 2 ^ r .exponent ≡ magnitude bits * 2 ^ 62) × (2 ^ 62 ≤ r .digits) × (r .digits < 2 ^ 63) × (r .digits % 2 ≡ 0) × (r .exponent < 2100) ⌝ }
 {
-    let field = bits % 0x8000_0000_0000_0000 / 0x10_0000_0000_0000;
-    let low = bits % 0x10_0000_0000_0000;
+    let field = bits % SIGN / HIDDEN;
+    let low = bits % HIDDEN;
     if field == 0 {
         let zeros = u64::leading_zeros(low) as u64;
         Parts {
@@ -33,7 +39,7 @@ fn unpacked(bits: u64) -> Parts
         }
     } else {
         Parts {
-            digits: (0x10_0000_0000_0000 + low) * 0x400,
+            digits: (HIDDEN + low) * 0x400,
             exponent: field + 51,
         }
     }
@@ -48,13 +54,13 @@ fn of_bits(x: u64, y: u64, z: u64) -> f64
     let b = unpacked(y);
     let c = unpacked(z);
     let p = words::product(a.digits, b.digits);
-    let negative = (0x8000_0000_0000_0000 <= x) != (0x8000_0000_0000_0000 <= y);
+    let negative = (SIGN <= x) != (SIGN <= y);
     align::rounded_sum(
         negative,
         p.high,
         p.low,
         a.exponent + b.exponent,
-        0x8000_0000_0000_0000 <= z,
+        SIGN <= z,
         c.digits / 2,
         0,
         c.exponent + 1073,
@@ -76,25 +82,25 @@ fn finite(x: f64) -> bool
 fn general(a: f64, b: f64, c: f64) -> f64
     ensures { λ r. ⌜ r ≡ fused binary64 a b c ⌝ }
 {
-    if finite(a) {} else {
+    if !finite(a) {
         return a * b + c;
     }
-    if finite(b) {} else {
+    if !finite(b) {
         return a * b + c;
     }
-    if finite(c) {} else {
+    if !finite(c) {
         return c;
     }
     let x = f64::to_bits(a);
     let y = f64::to_bits(b);
     let z = f64::to_bits(c);
-    if x % 0x8000_0000_0000_0000 == 0 {
+    if x % SIGN == 0 {
         return a * b + c;
     }
-    if y % 0x8000_0000_0000_0000 == 0 {
+    if y % SIGN == 0 {
         return a * b + c;
     }
-    if z % 0x8000_0000_0000_0000 == 0 {
+    if z % SIGN == 0 {
         return a * b;
     }
     of_bits(x, y, z)
@@ -117,13 +123,13 @@ pub fn mul_add(a: f64, b: f64, c: f64) -> f64
                 let x = f64::to_bits(a);
                 let y = f64::to_bits(b);
                 let z = f64::to_bits(c);
-                let fx = x % 0x8000_0000_0000_0000 / 0x10_0000_0000_0000;
-                let fy = y % 0x8000_0000_0000_0000 / 0x10_0000_0000_0000;
-                let fz = z % 0x8000_0000_0000_0000 / 0x10_0000_0000_0000;
+                let fx = x % SIGN / HIDDEN;
+                let fy = y % SIGN / HIDDEN;
+                let fz = z % SIGN / HIDDEN;
                 let above = std::num::wrapping_sub_u64(fz + 1075, fx + fy);
                 if near::common(fx, fy, above) {
-                    let negative = (0x8000_0000_0000_0000 <= x) != (0x8000_0000_0000_0000 <= y);
-                    let like = negative == (0x8000_0000_0000_0000 <= z);
+                    let negative = (SIGN <= x) != (SIGN <= y);
+                    let like = negative == (SIGN <= z);
                     let s = near::biased_sum(like, x, y, z, above);
                     if near::long(s.high) {
                         return near::converted(negative, s.high, s.low, fx + fy);

@@ -9,11 +9,16 @@ ghost use mathlib.Core.Bool.{true, false, not, cond};
 ghost use lib.Ieee.Exact.{HasValue};
 ghost use Rattle.fused.specs.Words.{value};
 ghost use Rattle.fused.specs.Parts.{biasedSum, Converts};
+use super::HIDDEN;
+use super::SIGN;
 use super::words::Words;
 use super::words::difference;
 use super::words::marked;
 use super::words::product;
 use super::words::sum;
+
+// What the high word of a sum carries more, so that a negative sum is a number of two words too.
+const BIAS: u64 = 0x8_0000_0000_0000;
 
 // m * 2^n.
 fn lifted(m: u64, n: u64) -> Words
@@ -32,9 +37,9 @@ fn power(negative: bool, field: u64) -> f64
     ensures { λ r. ⌜ HasValue r negative (2 ^ (field + 51)) (2 ^ 1074) ⌝ }
 {
     if negative {
-        f64::from_bits(0x8000_0000_0000_0000 + field * 0x10_0000_0000_0000)
+        f64::from_bits(SIGN + field * HIDDEN)
     } else {
-        f64::from_bits(field * 0x10_0000_0000_0000)
+        f64::from_bits(field * HIDDEN)
     }
 }
 
@@ -72,13 +77,12 @@ fn pick(first: bool, a: u64, b: u64) -> u64
     if first { a } else { b }
 }
 
-// 2^115 + p + c, or 2^115 + p - c: with 2^51 more in the high word a negative difference is a number
-// of two words too. Both are worked out, since which is wanted is hard to foresee.
+// 2^115 + p + c, or 2^115 + p - c. Both are worked out, since which is wanted is hard to foresee.
 fn biased(like: bool, ph: u64, pl: u64, ch: u64, cl: u64) -> Words
     requires { ⌜ (ph < 2 ^ 50) × (ch < 2 ^ 51) ⌝ }
     ensures { λ r. ⌜ (value r ≡ cond like ((2 ^ 51 + ph) * 2 ^ 64 + pl + (ch * 2 ^ 64 + cl)) ((2 ^ 51 + ph) * 2 ^ 64 + pl - (ch * 2 ^ 64 + cl))) × (r .low < 2 ^ 64) ⌝ }
 {
-    let high = 0x8_0000_0000_0000 + ph;
+    let high = BIAS + ph;
     let s = sum(high, pl, ch, cl);
     let d = difference(high, pl, ch, cl);
     Words {
@@ -93,10 +97,10 @@ pub fn long(high: u64) -> bool
     requires { ⌜ high < 2 ^ 63 ⌝ }
     ensures { λ r. ⌜ (r ≡ true → (2 ^ 51 + 4 ≤ high) ⊎ (high + 4 ≤ 2 ^ 51)) ⌝ }
 {
-    if high + 4 <= 0x8_0000_0000_0000 {
+    if high + 4 <= BIAS {
         return true;
     }
-    0x8_0000_0000_0004 <= high
+    BIAS + 4 <= high
 }
 
 // The product of a and b, with c added or subtracted, and 2^115 more, by their bits: in units of the
@@ -105,11 +109,8 @@ pub fn biased_sum(like: bool, x: u64, y: u64, z: u64, n: u64) -> Words
     requires { ⌜ n < 63 ⌝ }
     ensures { λ r. ⌜ (value r ≡ biasedSum like x y z n) × (r .low < 2 ^ 64) × (r .high < 2 ^ 53) ⌝ }
 {
-    let p = product(
-        0x10_0000_0000_0000 + x % 0x10_0000_0000_0000,
-        0x10_0000_0000_0000 + y % 0x10_0000_0000_0000,
-    );
-    let c = lifted(0x10_0000_0000_0000 + z % 0x10_0000_0000_0000, n);
+    let p = product(HIDDEN + x % HIDDEN, HIDDEN + y % HIDDEN);
+    let c = lifted(HIDDEN + z % HIDDEN, n);
     biased(like, p.high, p.low, c.high, c.low)
 }
 

@@ -8,6 +8,8 @@ ghost use mathlib.Core.Bool.{cond};
 ghost use lib.Ieee.{binary64, round, hid, ones, top, ofBits};
 ghost use lib.Ieee.Nearest.{closest};
 ghost use Rattle.rounding.specs.Sticky.{Sticky};
+use super::HIDDEN;
+use super::SIGN;
 use super::words::marked;
 use super::words::shifted_word;
 
@@ -31,9 +33,9 @@ fn pattern(negative: bool, w: u64, k: u64) -> f64
     requires { ⌜ k < 4000 ⌝ }
     ensures { λ r. ⌜ r ≡ ofBits binary64 (cond negative (top binary64) 0 + min (k * hid binary64 + closest w (2 ^ 11)) (ones binary64 * hid binary64)) ⌝ }
 {
-    let bits = smaller(k * 0x10_0000_0000_0000 + nearest(w), 0x7ff0_0000_0000_0000);
+    let bits = smaller(k * HIDDEN + nearest(w), 0x7ff0_0000_0000_0000);
     if negative {
-        f64::from_bits(0x8000_0000_0000_0000 + bits)
+        f64::from_bits(SIGN + bits)
     } else {
         f64::from_bits(bits)
     }

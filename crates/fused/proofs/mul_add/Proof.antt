@@ -1,21 +1,13 @@
--- In the common case the words converted are the sum of the magnitudes (`came`, `at-product`), which is what the definition asks of the operands (`fused-values`). Assumes nothing.
-use mathlib.Core.Path.{_≡_, sym, _∙_, subst}
-use Prim.Native.Nat.{_+_, _*_, _%_, _^_}
-use native.Mathlib.Nat.{le-of-lt, le-of-suc-le-suc, le-trans, le-add-right, lt-of-lt-of-le}
-use mathlib.Core.Bool.{Bool, true}
-use lib.Dec.{T, leb, lit≤}
-use lib.Pow.{pow-pos}
-use lib.Ieee.{binary64, unlike, top, toBits}
+-- In the common case the result is the sum of the magnitudes (`common-sum`), and so is the definition (`by-bits`). Assumes nothing.
+use mathlib.Core.Path.{sym, _∙_}
+use native.Mathlib.Nat.{le-of-suc-le-suc, lt-of-lt-of-le}
+use lib.Dec.{lit≤}
+use lib.Ieee.{binary64, toBits}
 use borrow.Author.Needs.{needs}
-use Rattle.fused.specs.Parts.{field, magnitude}
-use Rattle.fused.proofs.Unpack.{float-value}
-use Rattle.fused.proofs.Values.{fused-values}
-use Rattle.fused.proofs.Window.{is-common, common-fields, common-nonzero, addend-lt, at-product, came}
+use Rattle.fused.proofs.Operands.{held, by-bits}
+use Rattle.fused.proofs.Window.{is-common, common-fields, common-nonzero, common-sum}
 use Rattle.fused.proofs.mul_add.Statement.{statement}
 use Rattle.fused.proofs.mul_add.Tie as tie
-
-is-number : {b : Bool} → b ≡ true → T b
-is-number h = subst T (sym h) tt
 
 number-requires : tie.Need-number-requires
 number-requires c κs = search needs
@@ -27,13 +19,13 @@ number-requires-3 : tie.Need-number-requires-3
 number-requires-3 c κs = search needs
 
 float-to-bits-x : tie.Need-float-to-bits-x
-float-to-bits-x c = (is-number (sym (c .before .before .before .before .before .number .ensures) ∙ c .before .before .before .before .if1 .taken))
+float-to-bits-x c = (held (sym (c .before .before .before .before .before .number .ensures) ∙ c .before .before .before .before .if1 .taken))
 
 float-to-bits-y : tie.Need-float-to-bits-y
-float-to-bits-y c = (is-number (sym (c .before .before .before .number2 .ensures) ∙ c .before .before .if2 .taken))
+float-to-bits-y c = (held (sym (c .before .before .before .number2 .ensures) ∙ c .before .before .if2 .taken))
 
 float-to-bits-z : tie.Need-float-to-bits-z
-float-to-bits-z c = (is-number (sym (c .before .number3 .ensures) ∙ c .if3 .taken))
+float-to-bits-z c = (held (sym (c .before .number3 .ensures) ∙ c .if3 .taken))
 
 add-wrapping-sub-u64 : tie.Need-add-wrapping-sub-u64
 add-wrapping-sub-u64 c = search needs
@@ -48,7 +40,7 @@ common-requires : tie.Need-common-requires
 common-requires c κs = search needs
 
 biased-sum-requires : tie.Need-biased-sum-requires
-biased-sum-requires c κs = (c .before .common .ensures (c .if4 .taken)) .4
+biased-sum-requires c κs = c .before .common .ensures (c .if4 .taken) .4
 
 long-requires : tie.Need-long-requires
 long-requires c κs = lt-of-lt-of-le (c .biased-sum .ensures .2) (lit≤ tt)
@@ -57,18 +49,31 @@ add-converted : tie.Need-add-converted
 add-converted c = search needs
 
 converted-requires : tie.Need-converted-requires
-converted-requires c κs = (c .before .before .biased-sum .ensures .2, (common-fields (toBits binary64 (c .before .before .before .before .before .before .before .before .before .before .before .before .args .a)) (toBits binary64 (c .before .before .before .before .before .before .before .before .before .before .before .before .args .b)) (toBits binary64 (c .before .before .before .before .before .before .before .before .before .before .before .before .args .c)) ((is-common (toBits binary64 (c .before .before .before .before .before .before .before .before .before .before .before .before .args .a)) (toBits binary64 (c .before .before .before .before .before .before .before .before .before .before .before .before .args .b)) (toBits binary64 (c .before .before .before .before .before .before .before .before .before .before .before .before .args .c)) (c .before .before .before .before .before .wrapping-sub-u64 .result) (c .before .before .before .before .common .ensures (c .before .before .before .if4 .taken)) (c .before .before .before .before .before .wrapping-sub-u64 .ensures)) .0)) .5, (common-fields (toBits binary64 (c .before .before .before .before .before .before .before .before .before .before .before .before .args .a)) (toBits binary64 (c .before .before .before .before .before .before .before .before .before .before .before .before .args .b)) (toBits binary64 (c .before .before .before .before .before .before .before .before .before .before .before .before .args .c)) ((is-common (toBits binary64 (c .before .before .before .before .before .before .before .before .before .before .before .before .args .a)) (toBits binary64 (c .before .before .before .before .before .before .before .before .before .before .before .before .args .b)) (toBits binary64 (c .before .before .before .before .before .before .before .before .before .before .before .before .args .c)) (c .before .before .before .before .before .wrapping-sub-u64 .result) (c .before .before .before .before .common .ensures (c .before .before .before .if4 .taken)) (c .before .before .before .before .before .wrapping-sub-u64 .ensures)) .0)) .6)
+converted-requires c κs =
+    let s = c .before .before .before .before .before .before .before .before .before .before .before .before in
+    let x = toBits binary64 (s .args .a) in
+    let y = toBits binary64 (s .args .b) in
+    let z = toBits binary64 (s .args .c) in
+    let n = c .before .before .before .before .before .wrapping-sub-u64 in
+    let k = c .before .before .before .before .common .ensures (c .before .before .before .if4 .taken) in
+    let w = is-common x y z (n .result) k (n .ensures) in
+    let f = common-fields x y z (w .0) in
+    (c .before .before .biased-sum .ensures .2, f .5, f .6)
 
 returns : tie.Need-returns
 returns c =
-    came (unlike (leb (top binary64) (toBits binary64 (c .before .before .before .before .before .before .before .before .before .before .before .before .before .args .a))) (leb (top binary64) (toBits binary64 (c .before .before .before .before .before .before .before .before .before .before .before .before .before .args .b)))) ((2 ^ 52 + (toBits binary64 (c .before .before .before .before .before .before .before .before .before .before .before .before .before .args .a)) % 2 ^ 52) * (2 ^ 52 + (toBits binary64 (c .before .before .before .before .before .before .before .before .before .before .before .before .before .args .b)) % 2 ^ 52)) ((2 ^ 52 + (toBits binary64 (c .before .before .before .before .before .before .before .before .before .before .before .before .before .args .c)) % 2 ^ 52) * 2 ^ c .before .before .before .before .before .before .wrapping-sub-u64 .result) (c .before .before .before .biased-sum .result .high) (c .before .before .before .biased-sum .result .low) (field (toBits binary64 (c .before .before .before .before .before .before .before .before .before .before .before .before .before .args .a)) + field (toBits binary64 (c .before .before .before .before .before .before .before .before .before .before .before .before .before .args .b))) (c .converted .result)
-    (c .before .before .before .biased-sum .ensures .1) (c .converted .ensures) (c .before .before .long .ensures (c .before .if5 .taken)) (leb (top binary64) (toBits binary64 (c .before .before .before .before .before .before .before .before .before .before .before .before .before .args .c)))
-    (le-trans (le-of-lt (addend-lt (toBits binary64 (c .before .before .before .before .before .before .before .before .before .before .before .before .before .args .c)) (c .before .before .before .before .before .before .wrapping-sub-u64 .result) (le-of-suc-le-suc ((c .before .before .before .before .before .common .ensures (c .before .before .before .before .if4 .taken)) .4)))) (le-add-right (2 ^ 115) ((2 ^ 52 + (toBits binary64 (c .before .before .before .before .before .before .before .before .before .before .before .before .before .args .a)) % 2 ^ 52) * (2 ^ 52 + (toBits binary64 (c .before .before .before .before .before .before .before .before .before .before .before .before .before .args .b)) % 2 ^ 52)))) (c .before .before .before .biased-sum .ensures .0)
-    ∙ sym (at-product (toBits binary64 (c .before .before .before .before .before .before .before .before .before .before .before .before .before .args .a)) (toBits binary64 (c .before .before .before .before .before .before .before .before .before .before .before .before .before .args .b)) (toBits binary64 (c .before .before .before .before .before .before .before .before .before .before .before .before .before .args .c)) (c .before .before .before .before .before .before .wrapping-sub-u64 .result) ((is-common (toBits binary64 (c .before .before .before .before .before .before .before .before .before .before .before .before .before .args .a)) (toBits binary64 (c .before .before .before .before .before .before .before .before .before .before .before .before .before .args .b)) (toBits binary64 (c .before .before .before .before .before .before .before .before .before .before .before .before .before .args .c)) (c .before .before .before .before .before .before .wrapping-sub-u64 .result) (c .before .before .before .before .before .common .ensures (c .before .before .before .before .if4 .taken)) (c .before .before .before .before .before .before .wrapping-sub-u64 .ensures)) .0) ((is-common (toBits binary64 (c .before .before .before .before .before .before .before .before .before .before .before .before .before .args .a)) (toBits binary64 (c .before .before .before .before .before .before .before .before .before .before .before .before .before .args .b)) (toBits binary64 (c .before .before .before .before .before .before .before .before .before .before .before .before .before .args .c)) (c .before .before .before .before .before .before .wrapping-sub-u64 .result) (c .before .before .before .before .before .common .ensures (c .before .before .before .before .if4 .taken)) (c .before .before .before .before .before .before .wrapping-sub-u64 .ensures)) .1))
-    ∙ sym (fused-values binary64 (c .before .before .before .before .before .before .before .before .before .before .before .before .before .args .a) (c .before .before .before .before .before .before .before .before .before .before .before .before .before .args .b) (c .before .before .before .before .before .before .before .before .before .before .before .before .before .args .c) (leb (top binary64) (toBits binary64 (c .before .before .before .before .before .before .before .before .before .before .before .before .before .args .a))) (magnitude (toBits binary64 (c .before .before .before .before .before .before .before .before .before .before .before .before .before .args .a))) (leb (top binary64) (toBits binary64 (c .before .before .before .before .before .before .before .before .before .before .before .before .before .args .b))) (magnitude (toBits binary64 (c .before .before .before .before .before .before .before .before .before .before .before .before .before .args .b))) (leb (top binary64) (toBits binary64 (c .before .before .before .before .before .before .before .before .before .before .before .before .before .args .c))) (magnitude (toBits binary64 (c .before .before .before .before .before .before .before .before .before .before .before .before .before .args .c))) (2 ^ 1074) (pow-pos 1074)
-    (float-value (c .before .before .before .before .before .before .before .before .before .before .before .before .before .args .a) (subst T (sym (c .before .before .before .before .before .before .before .before .before .before .before .before .before .good .0 .1)) tt) (common-nonzero (toBits binary64 (c .before .before .before .before .before .before .before .before .before .before .before .before .before .args .a)) (toBits binary64 (c .before .before .before .before .before .before .before .before .before .before .before .before .before .args .b)) (toBits binary64 (c .before .before .before .before .before .before .before .before .before .before .before .before .before .args .c)) ((is-common (toBits binary64 (c .before .before .before .before .before .before .before .before .before .before .before .before .before .args .a)) (toBits binary64 (c .before .before .before .before .before .before .before .before .before .before .before .before .before .args .b)) (toBits binary64 (c .before .before .before .before .before .before .before .before .before .before .before .before .before .args .c)) (c .before .before .before .before .before .before .wrapping-sub-u64 .result) (c .before .before .before .before .before .common .ensures (c .before .before .before .before .if4 .taken)) (c .before .before .before .before .before .before .wrapping-sub-u64 .ensures)) .0) .0 .0))
-    (float-value (c .before .before .before .before .before .before .before .before .before .before .before .before .before .args .b) (subst T (sym (c .before .before .before .before .before .before .before .before .before .before .before .before .before .good .1 .0 .1)) tt) (common-nonzero (toBits binary64 (c .before .before .before .before .before .before .before .before .before .before .before .before .before .args .a)) (toBits binary64 (c .before .before .before .before .before .before .before .before .before .before .before .before .before .args .b)) (toBits binary64 (c .before .before .before .before .before .before .before .before .before .before .before .before .before .args .c)) ((is-common (toBits binary64 (c .before .before .before .before .before .before .before .before .before .before .before .before .before .args .a)) (toBits binary64 (c .before .before .before .before .before .before .before .before .before .before .before .before .before .args .b)) (toBits binary64 (c .before .before .before .before .before .before .before .before .before .before .before .before .before .args .c)) (c .before .before .before .before .before .before .wrapping-sub-u64 .result) (c .before .before .before .before .before .common .ensures (c .before .before .before .before .if4 .taken)) (c .before .before .before .before .before .before .wrapping-sub-u64 .ensures)) .0) .1 .0))
-    (float-value (c .before .before .before .before .before .before .before .before .before .before .before .before .before .args .c) (subst T (sym (c .before .before .before .before .before .before .before .before .before .before .before .before .before .good .1 .1 .0 .1)) tt) (common-nonzero (toBits binary64 (c .before .before .before .before .before .before .before .before .before .before .before .before .before .args .a)) (toBits binary64 (c .before .before .before .before .before .before .before .before .before .before .before .before .before .args .b)) (toBits binary64 (c .before .before .before .before .before .before .before .before .before .before .before .before .before .args .c)) ((is-common (toBits binary64 (c .before .before .before .before .before .before .before .before .before .before .before .before .before .args .a)) (toBits binary64 (c .before .before .before .before .before .before .before .before .before .before .before .before .before .args .b)) (toBits binary64 (c .before .before .before .before .before .before .before .before .before .before .before .before .before .args .c)) (c .before .before .before .before .before .before .wrapping-sub-u64 .result) (c .before .before .before .before .before .common .ensures (c .before .before .before .before .if4 .taken)) (c .before .before .before .before .before .before .wrapping-sub-u64 .ensures)) .0) .2 .0)))
+    let s = c .before .before .before .before .before .before .before .before .before .before .before .before .before in
+    let x = toBits binary64 (s .args .a) in
+    let y = toBits binary64 (s .args .b) in
+    let z = toBits binary64 (s .args .c) in
+    let n = c .before .before .before .before .before .before .wrapping-sub-u64 in
+    let k = c .before .before .before .before .before .common .ensures (c .before .before .before .before .if4 .taken) in
+    let w = is-common x y z (n .result) k (n .ensures) in
+    let f = common-nonzero x y z (w .0) in
+    let t = c .before .before .before .biased-sum in
+    common-sum x y z (n .result) (t .result .high) (t .result .low) (c .converted .result) (w .0) (w .1) (le-of-suc-le-suc (k .4)) (t .ensures .1) (t .ensures .0) (c .converted .ensures)
+    (c .before .before .long .ensures (c .before .if5 .taken))
+    ∙ sym (by-bits (s .args .a) (s .args .b) (s .args .c) (held (s .good .0 .1)) (held (s .good .1 .0 .1)) (held (s .good .1 .1 .0 .1)) (f .0 .0) (f .1 .0) (f .2 .0))
 
 general-requires : tie.Need-general-requires
 general-requires c κs = search needs
