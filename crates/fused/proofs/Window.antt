@@ -2,14 +2,17 @@
 use mathlib.Core.Path.{_≡_, refl, sym, ap, ap₂, _∙_, subst}
 use mathlib.Core.Logic.{_⊎_, inl, inr}
 use Prim.Native.Nat.{ℕ, _+_, _-_, _*_, _/_, _%_, _^_, _≤_, _<_}
-use native.Mathlib.Nat.{le-trans, le-of-lt, le-add-right, lt-of-le-of-lt, lt-of-lt-of-le, lt-of-mul-lt-mul-right, add-mul, mul-assoc, mul-left-comm, mul-lt-mul-of-pos-right, mod-eq-of-lt}
+use native.Mathlib.Nat.{le-trans, le-of-lt, le-add-right, lt-of-le-of-lt, lt-of-lt-of-le, lt-of-mul-lt-mul-right, add-mul, mul-assoc, mul-left-comm, mul-lt-mul-of-pos-right, mod-eq-of-lt, mul-pos, add-zero, sub-zero}
 use native.Mathlib.Omega.{arith}
 use mathlib.Core.Bool.{Bool, true, false, not, cond, Bool·beq}
 use lib.Dec.{leb, lit≤}
 use lib.Pow.{pow-add, pow-pos, pow-mono, shl-lt}
 use lib.Ieee.{Float, binary64, unlike, top, round}
 use lib.Ieee as Ieee
-use Rattle.rounding.proofs.Numbers.{sub-mul}
+use Rattle.rounding.specs.Sticky.{Sticky}
+use Rattle.rounding.proofs.Numbers.{less-or-not, sub-mul}
+use Rattle.rounding.proofs.Sticky.{sticky-le}
+use Rattle.rounding.proofs.Word.{sum-sticky}
 use Rattle.rounding.proofs.Sums.{sum-same, sum-like, sum-more, sum-less}
 use Rattle.fused.specs.Parts.{field, magnitude, Common, Nonzero, summed, biasedSum, Converts}
 use Rattle.fused.proofs.Carry.{mul-lt-pow}
@@ -74,12 +77,12 @@ addends c f e m p q h =
     sums : (f e : ℕ) → 0 < f → e ≤ f + 1075 → f - 1 + 1074 + 2150 ≡ f + 1075 - e + e + 2148
     sums f e p q = omega arith
 
-pub normal-fields : (f g h : ℕ) → 600 ≤ f → f < 1500 → 600 ≤ g → g < 1500 → f + g ≤ h + 1075 → h + 1075 < f + g + 63
-    → (0 < f) × (0 < g) × (0 < h) × (h < 2047) × (h + 1075 - (f + g) ≤ 62) × (1200 ≤ f + g) × (f + g < 3000)
-normal-fields f g h a b c d e i = (omega arith, omega arith, omega arith, omega arith, omega arith, omega arith, omega arith)
+normal-fields : (f g h : ℕ) → 600 ≤ f → f < 1450 → 600 ≤ g → g < 1450 → f + g ≤ h + 1075 → h + 1075 < f + g + 126
+    → (0 < f) × (0 < g) × (0 < h) × (h < 2047) × (1200 ≤ f + g) × (f + g < 2900)
+normal-fields f g h a b c d e i = (omega arith, omega arith, omega arith, omega arith, omega arith, omega arith)
 
 pub common-fields : (x y z : ℕ) → Common x y z
-    → (0 < field x) × (0 < field y) × (0 < field z) × (field z < 2047) × (field z + 1075 - (field x + field y) ≤ 62) × (1200 ≤ field x + field y) × (field x + field y < 3000)
+    → (0 < field x) × (0 < field y) × (0 < field z) × (field z < 2047) × (1200 ≤ field x + field y) × (field x + field y < 2900)
 common-fields x y z w = normal-fields (field x) (field y) (field z) (w .0) (w .1) (w .2) (w .3) (w .4) (w .5)
 
 pub common-nonzero : (x y z : ℕ) → Common x y z → Nonzero x × Nonzero y × Nonzero z
@@ -153,26 +156,87 @@ bias-value true ph pl ch cl p c y e f g = omega arith
 bias-value false ph pl ch cl p c y e f g = omega arith
 
 -- a wrapping difference that is small did not wrap
-pub within : (a b r : ℕ) → b < 3000 → (r + b) % 2 ^ 64 ≡ a → r < 63 → (b ≤ a) × (a < b + 63) × (a - b ≡ r)
+within : (a b r : ℕ) → b < 2900 → (r + b) % 2 ^ 64 ≡ a → r < 126 → (b ≤ a) × (a < b + 126) × (a - b ≡ r)
 within a b r l w k =
     let e : r + b ≡ a = sym (mod-eq-of-lt (omega (arith, k, l))) ∙ w in
     (omega (arith, e), omega (arith, e, k), omega (arith, e))
 
-pub is-common : (x y z r : ℕ) → (600 ≤ field x) × (field x < 1500) × (600 ≤ field y) × (field y < 1500) × (r < 63) → (r + (field x + field y)) % 2 ^ 64 ≡ field z + 1075
+pub is-common : (x y z r : ℕ) → (600 ≤ field x) × (field x < 1450) × (600 ≤ field y) × (field y < 1450) × (r < 126) → (r + (field x + field y)) % 2 ^ 64 ≡ field z + 1075
     → Common x y z × (field z + 1075 - (field x + field y) ≡ r)
 is-common x y z r (a, b, c, d, k) w =
     let i = within (field z + 1075) (field x + field y) r (under (field x) (field y) b d) w k in
     ((a, b, c, d, i .0, i .1), i .2)
   where
-    under : (f g : ℕ) → f < 1500 → g < 1500 → f + g < 3000
+    under : (f g : ℕ) → f < 1450 → g < 1450 → f + g < 2900
     under f g b d = omega arith
 
+-- ---- a product that lies far below the addend is shifted
+
+pub excess-room : (n : ℕ) → n < 126 → (n - (n - 62) ≤ 62) × (n - 62 < 64)
+excess-room n h = (omega arith, omega arith)
+
+-- with no shift the sticky product is the product
+unshifted : (x y k : ℕ) → k ≡ 0 → Sticky (2 ^ k) x y → y ≡ x
+unshifted x y k e s = go (subst (λ (i : ℕ). Sticky (2 ^ i) x y) e s)
+  where
+    go : Sticky 1 x y → y ≡ x
+    go (inl g) = omega arith
+    go (inr (o, l, u)) = omega arith
+
+-- the sum of the sticky product is that of the product: either nothing was shifted out, or the addend outweighs it
+product-seen : (s t : Bool) (p q m n e : ℕ) → 1200 ≤ e → p < 2 ^ 106 → 2 ^ 52 ≤ m → Sticky (2 ^ (n - 62)) p q
+    → Ieee.sum binary64 s (q * 2 ^ (e + (n - 62))) t (m * 2 ^ (n - (n - 62)) * 2 ^ (e + (n - 62))) (2 ^ 2150) ≡ Ieee.sum binary64 s (p * 2 ^ e) t (m * 2 ^ n * 2 ^ e) (2 ^ 2150)
+product-seen s t p q m n e g′ i j k = elim (less-or-not 62 n) [
+  | inr g ↦
+      let z : n - 62 ≡ 0 = omega arith in
+      ap₂ (λ (a b : ℕ). Ieee.sum binary64 s (a * 2 ^ (e + b)) t (m * 2 ^ (n - b) * 2 ^ (e + b)) (2 ^ 2150)) (unshifted p q (n - 62) z k) z
+      ∙ ap₂ (λ (a b : ℕ). Ieee.sum binary64 s (p * 2 ^ a) t (m * 2 ^ b * 2 ^ a) (2 ^ 2150)) (add-zero e) (sub-zero n)
+  | inl l ↦
+      let f = n - 62 in
+      let d : n - f ≡ 62 = omega arith in
+      ap (λ (b : ℕ). Ieee.sum binary64 s (q * 2 ^ (e + f)) t (m * 2 ^ b * 2 ^ (e + f)) (2 ^ 2150)) d
+      ∙ sum-sticky binary64 s t (2 ^ f) p q (m * 2 ^ 62) (e + f) 2150 (pow-pos f) k (omega arith) (outweighs m q j (lt-of-le-of-lt (sticky-le (2 ^ f) p q (pow-pos f) k) i)) (omega arith)
+      ∙ sum-same binary64 s (p * 2 ^ (e + f)) t (m * 2 ^ 62 * 2 ^ f * 2 ^ (e + f)) (2 ^ f * 2 ^ 2150) (p * 2 ^ e) (m * 2 ^ n * 2 ^ e) (2 ^ 2150) (mul-pos (pow-pos f) (pow-pos 2150)) (pow-pos 2150)
+      (shift-back p e f)
+      (ap (λ (a : ℕ). a * 2 ^ (e + f) * 2 ^ 2150) (mul-assoc m (2 ^ 62) (2 ^ f) ∙ ap (λ (a : ℕ). m * a) (sym (pow-add 2 62 f) ∙ ap (λ (a : ℕ). 2 ^ a) (joined n l))) ∙ shift-back (m * 2 ^ n) e f)
+]
+  where
+    outweighs : (m q : ℕ) → 2 ^ 52 ≤ m → q < 2 ^ 106 → 2 ^ 54 + q ≤ m * 2 ^ 62
+    outweighs m q a b = omega arith
+
+    joined : (n : ℕ) → 62 < n → 62 + (n - 62) ≡ n
+    joined n h = omega arith
+
+    shift-back : (a e f : ℕ) → a * 2 ^ (e + f) * 2 ^ 2150 ≡ a * 2 ^ e * (2 ^ f * 2 ^ 2150)
+    shift-back a e f =
+        ap (λ (b : ℕ). b * 2 ^ 2150) (ap (λ (b : ℕ). a * b) (pow-add 2 e f) ∙ sym (mul-assoc a (2 ^ e) (2 ^ f))) ∙ mul-assoc (a * 2 ^ e) (2 ^ f) (2 ^ 2150)
+
 -- The words converted are the sum of the magnitudes: what the common case comes to.
-pub common-sum : (x y z n h l : ℕ) (r : Float) → Common x y z → field z + 1075 - (field x + field y) ≡ n → n ≤ 62 → l < 2 ^ 64
-    → h * 2 ^ 64 + l ≡ biasedSum (Bool·beq (unlike (leb (2 ^ 63) x) (leb (2 ^ 63) y)) (leb (2 ^ 63) z)) x y z n → Converts (unlike (leb (2 ^ 63) x) (leb (2 ^ 63) y)) h l (field x + field y) r
+common-sum : (x y z n h l q : ℕ) (r : Float) → Common x y z → field z + 1075 - (field x + field y) ≡ n → n < 126 → l < 2 ^ 64
+    → Sticky (2 ^ (n - 62)) ((2 ^ 52 + x % 2 ^ 52) * (2 ^ 52 + y % 2 ^ 52)) q
+    → h * 2 ^ 64 + l ≡ biasedSum (Bool·beq (unlike (leb (2 ^ 63) x) (leb (2 ^ 63) y)) (leb (2 ^ 63) z)) q z (n - (n - 62))
+    → Converts (unlike (leb (2 ^ 63) x) (leb (2 ^ 63) y)) h l (field x + field y + (n - 62)) r
     → (2 ^ 51 + 4 ≤ h) ⊎ (h + 4 ≤ 2 ^ 51) → r ≡ summed x y z
-common-sum x y z n h l r w e m k y′ t f =
+common-sum x y z n h l q r w e m k v y′ t f =
+    let s = unlike (leb (2 ^ 63) x) (leb (2 ^ 63) y) in
     let p = (2 ^ 52 + x % 2 ^ 52) * (2 ^ 52 + y % 2 ^ 52) in
-    let c = (2 ^ 52 + z % 2 ^ 52) * 2 ^ n in
-    came (unlike (leb (2 ^ 63) x) (leb (2 ^ 63) y)) p c h l (field x + field y) r k t f (leb (2 ^ 63) z) (le-trans (le-of-lt (addend-lt z n m)) (le-add-right (2 ^ 115) p)) y′
+    let d = 2 ^ 52 + z % 2 ^ 52 in
+    let c = d * 2 ^ (n - (n - 62)) in
+    came s q c h l (field x + field y + (n - 62)) r k t f (leb (2 ^ 63) z) (le-trans (le-of-lt (addend-lt z (n - (n - 62)) (excess-room n m .0))) (le-add-right (2 ^ 115) q)) y′
+    ∙ product-seen s (leb (2 ^ 63) z) p q d n (field x + field y) (common-fields x y z w .4) (product-lt x y) (le-add-right (2 ^ 52) (z % 2 ^ 52)) v
     ∙ sym (at-product x y z n w e)
+
+-- the same with the shift as the code has it
+pub common-shifted : (x y z n far h l q : ℕ) (r : Float) → far ≡ n - 62 → Common x y z → field z + 1075 - (field x + field y) ≡ n → n < 126 → l < 2 ^ 64
+    → Sticky (2 ^ far) ((2 ^ 52 + x % 2 ^ 52) * (2 ^ 52 + y % 2 ^ 52)) q
+    → h * 2 ^ 64 + l ≡ biasedSum (Bool·beq (unlike (leb (2 ^ 63) x) (leb (2 ^ 63) y)) (leb (2 ^ 63) z)) q z (n - far)
+    → Converts (unlike (leb (2 ^ 63) x) (leb (2 ^ 63) y)) h l (field x + field y + far) r
+    → (2 ^ 51 + 4 ≤ h) ⊎ (h + 4 ≤ 2 ^ 51) → r ≡ summed x y z
+common-shifted x y z n far h l q r e w d m k v b t f =
+    common-sum x y z n h l q r w d m k
+    (subst (λ (i : ℕ). Sticky (2 ^ i) ((2 ^ 52 + x % 2 ^ 52) * (2 ^ 52 + y % 2 ^ 52)) q) e v)
+    (subst (λ (i : ℕ). h * 2 ^ 64 + l ≡ biasedSum (Bool·beq (unlike (leb (2 ^ 63) x) (leb (2 ^ 63) y)) (leb (2 ^ 63) z)) q z (n - i)) e b)
+    (subst (λ (i : ℕ). Converts (unlike (leb (2 ^ 63) x) (leb (2 ^ 63) y)) h l (field x + field y + i) r) e t) f
+
+pub shift-room : (n far : ℕ) → far ≡ n - 62 → n < 126 → far < 64
+shift-room n far e h = omega arith

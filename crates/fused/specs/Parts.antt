@@ -22,14 +22,13 @@ Nonzero b = (field b < ones binary64) × (0 < b % top binary64)
 abbrev pub summed : ℕ → ℕ → ℕ → Float
 summed x y z = sum binary64 (unlike (leb (top binary64) x) (leb (top binary64) y)) (magnitude x * magnitude y) (leb (top binary64) z) (magnitude z * 2 ^ 1074) (2 ^ 2148)
 
--- The common case: both factors are between 2 ^ -423 and 2 ^ 477, and the addend's last digit is from 0 to 62 places above the product's.
+-- The common case: both factors are between 2 ^ -423 and 2 ^ 427, and the addend's last digit is from 0 to 125 places above the product's.
 abbrev pub Common : ℕ → ℕ → ℕ → Type 0
-Common x y z = (600 ≤ field x) × (field x < 1500) × (600 ≤ field y) × (field y < 1500) × (field x + field y ≤ field z + 1075) × (field z + 1075 < field x + field y + 63)
+Common x y z = (600 ≤ field x) × (field x < 1450) × (600 ≤ field y) × (field y < 1450) × (field x + field y ≤ field z + 1075) × (field z + 1075 < field x + field y + 126)
 
--- There the product, with the addend added or subtracted, and 2 ^ 115 more, in units of the product's last digit, which is n places below the addend's
-abbrev pub biasedSum : Bool → ℕ → ℕ → ℕ → ℕ → ℕ
-biasedSum like x y z n =
-    let p = (2 ^ 52 + x % 2 ^ 52) * (2 ^ 52 + y % 2 ^ 52) in
+-- There a product p, with the addend added or subtracted, and 2 ^ 115 more, in units of the product's last digit, which is n places below the addend's
+abbrev pub biasedSum : Bool → ℕ → ℕ → ℕ → ℕ
+biasedSum like p z n =
     let c = (2 ^ 52 + z % 2 ^ 52) * 2 ^ n in
     cond like (2 ^ 115 + p + c) (2 ^ 115 + p - c)
 

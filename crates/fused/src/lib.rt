@@ -130,9 +130,10 @@ pub fn mul_add(a: f64, b: f64, c: f64) -> f64
                 if near::common(fx, fy, above) {
                     let negative = (SIGN <= x) != (SIGN <= y);
                     let like = negative == (SIGN <= z);
-                    let s = near::biased_sum(like, x, y, z, above);
+                    let far = near::excess(above);
+                    let s = near::biased_sum(like, x, y, z, above - far, far);
                     if near::long(s.high) {
-                        return near::converted(negative, s.high, s.low, fx + fy);
+                        return near::converted(negative, s.high, s.low, fx + fy + far);
                     }
                 }
             }

@@ -1,12 +1,13 @@
 // The common case, without a search for the leading bit: both factors are of ordinary size, and the
-// addend's last bit is no lower than the product's and its first not far above the product's. Then
-// product and addend fit two words together with nothing cut off, and the machine's own conversion
-// and addition of floats round the result.
+// addend's last bit is no lower than the product's. Then product and addend fit two words together,
+// with nothing cut off but the last bits of a product that lies far below the addend; and the
+// machine's own conversion and addition of floats round the result.
 ghost use mathlib.Core.Path.{_≡_};
-ghost use Prim.Native.Nat.{_+_, _-_, _*_, _^_, _≤_, _<_};
+ghost use Prim.Native.Nat.{ℕ, _+_, _-_, _*_, _%_, _^_, _≤_, _<_};
 ghost use mathlib.Core.Logic.{_⊎_};
 ghost use mathlib.Core.Bool.{true, false, not, cond};
 ghost use lib.Ieee.Exact.{HasValue};
+ghost use Rattle.rounding.specs.Sticky.{Sticky};
 ghost use Rattle.fused.specs.Words.{value};
 ghost use Rattle.fused.specs.Parts.{biasedSum, Converts};
 use super::HIDDEN;
@@ -15,6 +16,7 @@ use super::words::Words;
 use super::words::difference;
 use super::words::marked;
 use super::words::product;
+use super::words::shifted;
 use super::words::sum;
 
 // What the high word of a sum carries more, so that a negative sum is a number of two words too.
@@ -54,21 +56,28 @@ fn unbiased(high: u64) -> f64
 // Whether the fields of the factors' exponents, and the places that the addend's last digit is above
 // the product's, are of the common case.
 pub fn common(fx: u64, fy: u64, above: u64) -> bool
-    ensures { λ r. ⌜ (r ≡ true → (600 ≤ fx) × (fx < 1500) × (600 ≤ fy) × (fy < 1500) × (above < 63)) ⌝ }
+    ensures { λ r. ⌜ (r ≡ true → (600 ≤ fx) × (fx < 1450) × (600 ≤ fy) × (fy < 1450) × (above < 126)) ⌝ }
 {
     if fx < 600 {
         return false;
     }
-    if 1500 <= fx {
+    if 1450 <= fx {
         return false;
     }
     if fy < 600 {
         return false;
     }
-    if 1500 <= fy {
+    if 1450 <= fy {
         return false;
     }
-    above < 63
+    above < 126
+}
+
+// By how much the product has to be shifted, so that an addend so many places above it has room.
+pub fn excess(above: u64) -> u64
+    ensures { λ r. ⌜ r ≡ above - 62 ⌝ }
+{
+    if above < 63 { 0 } else { above - 62 }
 }
 
 fn pick(first: bool, a: u64, b: u64) -> u64
@@ -103,15 +112,17 @@ pub fn long(high: u64) -> bool
     BIAS + 4 <= high
 }
 
-// The product of a and b, with c added or subtracted, and 2^115 more, by their bits: in units of the
-// product's last digit, which is n places below the addend's.
-pub fn biased_sum(like: bool, x: u64, y: u64, z: u64, n: u64) -> Words
+// The product of a and b shifted by far places, with a sticky last bit, and c added or subtracted, and
+// 2^115 more, by their bits: in units of the shifted product's last digit, which is n places below the
+// addend's.
+pub fn biased_sum(like: bool, x: u64, y: u64, z: u64, n: u64, far: u64) -> Words
     requires { ⌜ n < 63 ⌝ }
-    ensures { λ r. ⌜ (value r ≡ biasedSum like x y z n) × (r .low < 2 ^ 64) × (r .high < 2 ^ 53) ⌝ }
+    ensures { λ r. ⌜ ((p : ℕ) × Sticky (2 ^ far) ((2 ^ 52 + x % 2 ^ 52) * (2 ^ 52 + y % 2 ^ 52)) p × (value r ≡ biasedSum like p z n)) × (r .low < 2 ^ 64) × (r .high < 2 ^ 53) ⌝ }
 {
     let p = product(HIDDEN + x % HIDDEN, HIDDEN + y % HIDDEN);
+    let s = shifted(p.high, p.low, far);
     let c = lifted(HIDDEN + z % HIDDEN, n);
-    biased(like, p.high, p.low, c.high, c.low)
+    biased(like, s.high, s.low, c.high, c.low)
 }
 
 // The float nearest to a biased sum in units of 2^(e - 2150), where the sign is the product's. Both words

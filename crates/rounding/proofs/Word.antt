@@ -1,18 +1,20 @@
 -- The bit pattern of a rounded fraction, worked out from a word that holds its leading digits, with a sticky last one. Assumes nothing.
-use mathlib.Core.Path.{_≡_, sym, ap, ap₂, _∙_, subst}
+use mathlib.Core.Path.{_≡_, sym, ap, ap₂, _∙_, subst, subst₂}
 use mathlib.Core.Logic.{_⊎_, inl, inr}
 use Prim.Native.Nat.{ℕ, suc, _+_, _-_, _*_, _/_, _%_, _^_, _≤_, _<_, compare, min}
-use native.Mathlib.Nat.{le-trans, le-of-eq, lt-of-lt-of-le, lt-irrefl, lt-of-not-le, mul-comm, mul-assoc, mul-left-comm, mul-pos, mul-le-mul-right, mul-lt-mul-of-pos-right, div-lt-iff-lt-mul, le-div-iff-mul-le, mul-mod-left, one-mul, mul-one, zero-lt-suc}
+use native.Mathlib.Nat.{le-trans, le-of-eq, lt-of-lt-of-le, lt-irrefl, lt-of-not-le, mul-comm, mul-assoc, mul-left-comm, mul-pos, mul-le-mul-right, mul-lt-mul-of-pos-right, div-lt-iff-lt-mul, le-div-iff-mul-le, mul-mod-left, one-mul, mul-one, zero-lt-suc, add-mul, add-comm, le-add-right, le-add-left, le-of-lt}
 use native.Mathlib.Omega.{arith}
-use mathlib.Core.Bool.{Bool, cond}
+use mathlib.Core.Bool.{Bool, true, false, not, cond}
 use lib.Dec.{T}
 use lib.Pow.{pow-add, pow-pos, pow-mono, shr-lt}
-use lib.Ieee.{Float, Format, prec, low, size, round, units, fits, hid, ones, top, ofBits}
+use lib.Ieee.{Float, Format, prec, low, size, round, units, sum, fits, hid, ones, top, ofBits}
 use lib.Ieee.Digits.{size-lt, size-le, size-reaches}
 use lib.Ieee.Fits.{two, round-is, round-fits, nearest-le}
 use lib.Ieee.Nearest.{closest, closest-same, nearest-ge}
 use Rattle.rounding.specs.Sticky.{Sticky}
-use Rattle.rounding.proofs.Sticky.{sticky-below, sticky-above, closest-sticky}
+use Rattle.rounding.proofs.Numbers.{sub-mul}
+use Rattle.rounding.proofs.Sticky.{sticky-add, sticky-from, sticky-below, sticky-above, closest-sticky}
+use Rattle.rounding.proofs.Sums.{sum-like, sum-less}
 use Rattle.rounding.proofs.Pattern.{Digits, units-bits}
 
 even-power : (d : ℕ) → 0 < d → 2 ^ d % 2 ≡ 0
@@ -127,3 +129,47 @@ round-sticky f s v x y g h p t l u =
 
     below : (z p : ℕ) → suc p < z → 2 ≤ p → p - 1 + (z - p) < z
     below z p h k = omega arith
+
+-- Where the second term outweighs a first one that is sticky, the sum rounds as that of what it stands for.
+module _ (f : Format) (s t : Bool) (v p q c e h : ℕ) (v-pos : 0 < v) (sticky : Sticky v p q) (even : c % 2 ≡ 0) (big : 2 ^ suc (prec f) + q ≤ c) (scale : h ≤ e + low f + 2) where
+  seen : (r : Bool) (x y : ℕ) → Sticky v x y → 2 ^ suc (prec f) ≤ y → round f r (y * 2 ^ e) (2 ^ h) ≡ round f r (x * 2 ^ e) (v * 2 ^ h)
+  seen r x y k l = ap (round f r (y * 2 ^ e)) (sym (one-mul (2 ^ h))) ∙ sym (round-sticky f r v x y e h v-pos k l scale)
+
+  less : q < c
+  less = more (2 ^ suc (prec f)) q c (pow-pos (suc (prec f))) big
+    where
+      more : (w q c : ℕ) → 0 < w → w + q ≤ c → q < c
+      more w q c a b = omega arith
+
+  p-less : p < c * v
+  p-less = sticky-below v p q c v-pos even less sticky
+
+  like : sum f s (q * 2 ^ e) s (c * 2 ^ e) (2 ^ h) ≡ sum f s (p * 2 ^ e) s (c * v * 2 ^ e) (v * 2 ^ h)
+  like =
+      sum-like f s (q * 2 ^ e) (c * 2 ^ e) (2 ^ h)
+      ∙ ap (λ (n : ℕ). round f s n (2 ^ h)) (sym (add-mul q c (2 ^ e)))
+      ∙ seen s (p + c * v) (q + c) (subst₂ (Sticky v) (add-comm (c * v) p) (add-comm c q) (sticky-add v c p q even sticky)) (le-trans (le-add-right (2 ^ suc (prec f)) q) (le-trans big (le-add-left c q)))
+      ∙ ap (λ (n : ℕ). round f s n (v * 2 ^ h)) (add-mul p (c * v) (2 ^ e))
+      ∙ sym (sum-like f s (p * 2 ^ e) (c * v * 2 ^ e) (v * 2 ^ h))
+
+  unlike : sum f s (q * 2 ^ e) (not s) (c * 2 ^ e) (2 ^ h) ≡ sum f s (p * 2 ^ e) (not s) (c * v * 2 ^ e) (v * 2 ^ h)
+  unlike =
+      sum-less f s (q * 2 ^ e) (c * 2 ^ e) (2 ^ h) (mul-lt-mul-of-pos-right less (pow-pos e))
+      ∙ ap (λ (n : ℕ). round f (not s) n (2 ^ h)) (sym (sub-mul c q (2 ^ e)))
+      ∙ seen (not s) (c * v - p) (c - q) (sticky-from v c p q even (le-of-lt less) sticky) (left (2 ^ suc (prec f)) q c big)
+      ∙ ap (λ (n : ℕ). round f (not s) n (v * 2 ^ h)) (sub-mul (c * v) p (2 ^ e))
+      ∙ sym (sum-less f s (p * 2 ^ e) (c * v * 2 ^ e) (v * 2 ^ h) (mul-lt-mul-of-pos-right p-less (pow-pos e)))
+    where
+      left : (w q c : ℕ) → w + q ≤ c → w ≤ c - q
+      left w q c h = omega arith
+
+  pub sum-sticky : sum f s (q * 2 ^ e) t (c * 2 ^ e) (2 ^ h) ≡ sum f s (p * 2 ^ e) t (c * v * 2 ^ e) (v * 2 ^ h)
+  sum-sticky = go s t like unlike
+    where
+      go : (s t : Bool) → sum f s (q * 2 ^ e) s (c * 2 ^ e) (2 ^ h) ≡ sum f s (p * 2 ^ e) s (c * v * 2 ^ e) (v * 2 ^ h)
+          → sum f s (q * 2 ^ e) (not s) (c * 2 ^ e) (2 ^ h) ≡ sum f s (p * 2 ^ e) (not s) (c * v * 2 ^ e) (v * 2 ^ h)
+          → sum f s (q * 2 ^ e) t (c * 2 ^ e) (2 ^ h) ≡ sum f s (p * 2 ^ e) t (c * v * 2 ^ e) (v * 2 ^ h)
+      go true true a b = a
+      go true false a b = b
+      go false true a b = b
+      go false false a b = a

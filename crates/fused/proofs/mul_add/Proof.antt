@@ -1,11 +1,13 @@
--- In the common case the result is the sum of the magnitudes (`common-sum`), and so is the definition (`by-bits`). Assumes nothing.
+-- In the common case the result is the sum of the magnitudes (`common-shifted`), and so is the definition (`by-bits`). Assumes nothing.
 use mathlib.Core.Path.{sym, _∙_}
-use native.Mathlib.Nat.{le-of-suc-le-suc, lt-of-lt-of-le}
+use Prim.Native.Nat.{_-_, _≤_}
+use native.Mathlib.Omega.{arith}
+use native.Mathlib.Nat.{lt-of-lt-of-le}
 use lib.Dec.{lit≤}
 use lib.Ieee.{binary64, toBits}
 use borrow.Author.Needs.{needs}
 use Rattle.fused.proofs.Operands.{held, by-bits}
-use Rattle.fused.proofs.Window.{is-common, common-fields, common-nonzero, common-sum}
+use Rattle.fused.proofs.Window.{is-common, shift-room, common-fields, common-nonzero, common-shifted}
 use Rattle.fused.proofs.mul_add.Statement.{statement}
 use Rattle.fused.proofs.mul_add.Tie as tie
 
@@ -39,8 +41,14 @@ wrapping-sub-u64-requires c κs = search needs
 common-requires : tie.Need-common-requires
 common-requires c κs = search needs
 
+excess-requires : tie.Need-excess-requires
+excess-requires c κs = search needs
+
+sub-biased-sum : tie.Need-sub-biased-sum
+sub-biased-sum c = search needs
+
 biased-sum-requires : tie.Need-biased-sum-requires
-biased-sum-requires c κs = c .before .common .ensures (c .if4 .taken) .4
+biased-sum-requires c κs = search needs
 
 long-requires : tie.Need-long-requires
 long-requires c κs = lt-of-lt-of-le (c .biased-sum .ensures .2) (lit≤ tt)
@@ -48,20 +56,8 @@ long-requires c κs = lt-of-lt-of-le (c .biased-sum .ensures .2) (lit≤ tt)
 add-converted : tie.Need-add-converted
 add-converted c = search needs
 
-converted-requires : tie.Need-converted-requires
-converted-requires c κs =
-    let s = c .before .before .before .before .before .before .before .before .before .before .before .before in
-    let x = toBits binary64 (s .args .a) in
-    let y = toBits binary64 (s .args .b) in
-    let z = toBits binary64 (s .args .c) in
-    let n = c .before .before .before .before .before .wrapping-sub-u64 in
-    let k = c .before .before .before .before .common .ensures (c .before .before .before .if4 .taken) in
-    let w = is-common x y z (n .result) k (n .ensures) in
-    let f = common-fields x y z (w .0) in
-    (c .before .before .biased-sum .ensures .2, f .5, f .6)
-
-returns : tie.Need-returns
-returns c =
+add-converted-2 : tie.Need-add-converted-2
+add-converted-2 c =
     let s = c .before .before .before .before .before .before .before .before .before .before .before .before .before in
     let x = toBits binary64 (s .args .a) in
     let y = toBits binary64 (s .args .b) in
@@ -69,9 +65,39 @@ returns c =
     let n = c .before .before .before .before .before .before .wrapping-sub-u64 in
     let k = c .before .before .before .before .before .common .ensures (c .before .before .before .before .if4 .taken) in
     let w = is-common x y z (n .result) k (n .ensures) in
+    let o = c .before .before .before .excess in
+    let t = shift-room (n .result) (o .result) (o .ensures) (k .4) in
+    let f = common-fields x y z (w .0) in
+    omega (arith, t, f .5)
+
+converted-requires : tie.Need-converted-requires
+converted-requires c κs =
+    let s = c .before .before .before .before .before .before .before .before .before .before .before .before .before in
+    let x = toBits binary64 (s .args .a) in
+    let y = toBits binary64 (s .args .b) in
+    let z = toBits binary64 (s .args .c) in
+    let n = c .before .before .before .before .before .before .wrapping-sub-u64 in
+    let k = c .before .before .before .before .before .common .ensures (c .before .before .before .before .if4 .taken) in
+    let w = is-common x y z (n .result) k (n .ensures) in
+    let o = c .before .before .before .excess in
+    let t = shift-room (n .result) (o .result) (o .ensures) (k .4) in
+    let f = common-fields x y z (w .0) in
+    (c .before .before .biased-sum .ensures .2, omega (arith, f .4), omega (arith, t, f .5))
+
+returns : tie.Need-returns
+returns c =
+    let s = c .before .before .before .before .before .before .before .before .before .before .before .before .before .before in
+    let x = toBits binary64 (s .args .a) in
+    let y = toBits binary64 (s .args .b) in
+    let z = toBits binary64 (s .args .c) in
+    let n = c .before .before .before .before .before .before .before .wrapping-sub-u64 in
+    let k = c .before .before .before .before .before .before .common .ensures (c .before .before .before .before .before .if4 .taken) in
+    let w = is-common x y z (n .result) k (n .ensures) in
     let f = common-nonzero x y z (w .0) in
+    let o = c .before .before .before .before .excess in
     let t = c .before .before .before .biased-sum in
-    common-sum x y z (n .result) (t .result .high) (t .result .low) (c .converted .result) (w .0) (w .1) (le-of-suc-le-suc (k .4)) (t .ensures .1) (t .ensures .0) (c .converted .ensures)
+    let u = t .ensures .0 in
+    common-shifted x y z (n .result) (o .result) (t .result .high) (t .result .low) (u .0) (c .converted .result) (o .ensures) (w .0) (w .1) (k .4) (t .ensures .1) (u .1) (u .2) (c .converted .ensures)
     (c .before .before .long .ensures (c .before .if5 .taken))
     ∙ sym (by-bits (s .args .a) (s .args .b) (s .args .c) (held (s .good .0 .1)) (held (s .good .1 .0 .1)) (held (s .good .1 .1 .0 .1)) (f .0 .0) (f .1 .0) (f .2 .0))
 
@@ -95,9 +121,12 @@ mul-add-spec =
     add-wrapping-sub-u64-2
     wrapping-sub-u64-requires
     common-requires
+    excess-requires
+    sub-biased-sum
     biased-sum-requires
     long-requires
     add-converted
+    add-converted-2
     converted-requires
     returns
     general-requires
