@@ -108,6 +108,10 @@ module _ (h : ℕ) (h-lt : h < 2 ^ 53) where
 
 -- ---- `converted`
 
+plain : (s : Bool) → unlike false s ≡ s
+plain true = refl
+plain false = refl
+
 -- the low word as a float, its last eleven bits sticky
 pub low-sticky : (l j : ℕ) → Marked (l / 2048) (l % 2048) j → Sticky (2 ^ 11) l j
 low-sticky l j m = sticky-cut 2048 l (l / 2048) (l % 2048) j (div-add-mod' l 2048) (omega arith) (m .0) (m .1)
@@ -118,7 +122,7 @@ low-short l j h m = elim (eq-zero-or-pos (l % 2048)) [
   | inr p ↦ let f = m .1 p in omega (arith, f, h)
 ]
 
-pub low-value : (j : ℕ) → j < 2 ^ 53 → HasValue (ofInt binary64 (pos j)) false j 1
+low-value : (j : ℕ) → j < 2 ^ 53 → HasValue (ofInt binary64 (pos j)) false j 1
 low-value j l = unfold ofInt in round-whole binary64 false j (le-of-lt l)
 
 module _ (s : Bool) (h l j e : ℕ) (u p q : Float) (h-lt : h < 2 ^ 53) (h-ge : 4 ≤ h) (j-lt : j < 2 ^ 53) (t : Sticky (2 ^ 11) l j) (e-ge : 1200 ≤ e) (e-lt : e < 3000)
@@ -154,10 +158,6 @@ module _ (s : Bool) (h l j e : ℕ) (u p q : Float) (h-lt : h < 2 ^ 53) (h-ge : 
       small : (e : ℕ) → e < 3000 → e - 1116 + 51 < 2000
       small e g = omega arith
 
-      plain : (s : Bool) → unlike false s ≡ s
-      plain true = refl
-      plain false = refl
-
   -- the sum of the two is rounded, and does not see what the sticky bit stands for
   seen : (r : Bool) (x y : ℕ) → Sticky (2 ^ 11) x y → 2 ^ 54 ≤ y → round binary64 r (y * 2 ^ (e - 1065)) (2 ^ 1074) ≡ round binary64 r (x * 2 ^ e) (2 ^ 2150)
   seen r x y a b =
@@ -186,10 +186,6 @@ module _ (s : Bool) (h l j e : ℕ) (u p q : Float) (h-lt : h < 2 ^ 53) (h-ge : 
       ∙ sum-like binary64 s (h * 2 ^ 53 * 2 ^ (e - 1065)) (j * 2 ^ (e - 1065)) (2 ^ 1074)
       ∙ ap (λ (n : ℕ). round binary64 s n (2 ^ 1074)) (sym (add-mul (h * 2 ^ 53) j (2 ^ (e - 1065))))
       ∙ seen s (h * 2 ^ 64 + l) (h * 2 ^ 53 + j) (subst (λ (n : ℕ). Sticky (2 ^ 11) (n + l) (h * 2 ^ 53 + j)) placed (sticky-add (2 ^ 11) (h * 2 ^ 53) l j even t)) (omega arith)
-    where
-      plain : (s : Bool) → unlike false s ≡ s
-      plain true = refl
-      plain false = refl
 
   pub converted-below : HasValue u true h 1 → add binary64 (mul binary64 u p) (mul binary64 (ofInt binary64 (pos j)) q) ≡ round binary64 (not s) ((h * 2 ^ 64 - l) * 2 ^ e) (2 ^ 2150)
   converted-below v =

@@ -34,22 +34,25 @@ field-lt x fit fine = finite-field binary64 (toBits binary64 x) (held (ap finite
 float-value : (x : Float) → T (fits binary64 x) → field (toBits binary64 x) < ones binary64 → HasValue x (leb (top binary64) (toBits binary64 x)) (magnitude (toBits binary64 x)) (2 ^ 1074)
 float-value x fit l = subst (λ (v : Float). HasValue v (leb (top binary64) (toBits binary64 x)) (magnitude (toBits binary64 x)) (2 ^ 1074)) (ofBits-toBits binary64 x fit) (bits-value binary64 (toBits binary64 x) l)
 
--- the definition at finite operands, by their bits
-module _ (a b c : Float) (p : T (fits binary64 a)) (q : T (fits binary64 b)) (r : T (fits binary64 c)) (i : field (toBits binary64 a) < ones binary64) (j : field (toBits binary64 b) < ones binary64)
-    (k : field (toBits binary64 c) < ones binary64) where
-  sign : Float → Bool
-  sign x = leb (top binary64) (toBits binary64 x)
+sign : Float → Bool
+sign x = leb (top binary64) (toBits binary64 x)
 
-  size : Float → ℕ
-  size x = magnitude (toBits binary64 x)
+size : Float → ℕ
+size x = magnitude (toBits binary64 x)
 
-  pub by-bits : fused binary64 a b c ≡ summed (toBits binary64 a) (toBits binary64 b) (toBits binary64 c)
-  unfolding sign size
-  by-bits = fused-values binary64 a b c (sign a) (size a) (sign b) (size b) (sign c) (size c) (2 ^ 1074) (pow-pos 1074) (float-value a p i) (float-value b q j) (float-value c r k)
+-- ---- the definition at finite operands, by their bits
 
+pub by-bits : (a b c : Float) → T (fits binary64 a) → T (fits binary64 b) → T (fits binary64 c) → field (toBits binary64 a) < ones binary64 → field (toBits binary64 b) < ones binary64 → field (toBits binary64 c) < ones binary64
+    → fused binary64 a b c ≡ summed (toBits binary64 a) (toBits binary64 b) (toBits binary64 c)
+unfolding sign size
+by-bits a b c p q r i j k = fused-values binary64 a b c (sign a) (size a) (sign b) (size b) (sign c) (size c) (2 ^ 1074) (pow-pos 1074) (float-value a p i) (float-value b q j) (float-value c r k)
+
+module _ (a b c : Float) (p : T (fits binary64 a)) (q : T (fits binary64 b)) (r : T (fits binary64 c)) (i : finite a ≡ true) (j : finite b ≡ true) (k : finite c ≡ true) where
   no-product : size a * size b ≡ 0 → add binary64 (mul binary64 a b) c ≡ fused binary64 a b c
   unfolding sign size
-  no-product = zero-product binary64 a b c (sign a) (size a) (sign b) (size b) (sign c) (size c) (2 ^ 1074) (pow-pos 1074) (float-value a p i) (float-value b q j) (float-value c r k)
+  no-product =
+      zero-product binary64 a b c (sign a) (size a) (sign b) (size b) (sign c) (size c) (2 ^ 1074) (pow-pos 1074)
+      (float-value a p (field-lt a p i)) (float-value b q (field-lt b q j)) (float-value c r (field-lt c r k))
 
   pub zero-first : toBits binary64 a % 2 ^ 63 ≡ 0 → add binary64 (mul binary64 a b) c ≡ fused binary64 a b c
   unfolding size
@@ -62,5 +65,6 @@ module _ (a b c : Float) (p : T (fits binary64 a)) (q : T (fits binary64 b)) (r 
   pub zero-third : 0 < toBits binary64 a % 2 ^ 63 → 0 < toBits binary64 b % 2 ^ 63 → toBits binary64 c % 2 ^ 63 ≡ 0 → mul binary64 a b ≡ fused binary64 a b c
   unfolding sign size
   zero-third x y z =
-      zero-addend binary64 a b c (sign a) (size a) (sign b) (size b) (sign c) (size c) (2 ^ 1074) (pow-pos 1074) (float-value a p i) (float-value b q j) (float-value c r k)
+      zero-addend binary64 a b c (sign a) (size a) (sign b) (size b) (sign c) (size c) (2 ^ 1074) (pow-pos 1074)
+      (float-value a p (field-lt a p i)) (float-value b q (field-lt b q j)) (float-value c r (field-lt c r k))
       (mul-pos (magnitude-pos (toBits binary64 a) x) (magnitude-pos (toBits binary64 b) y)) (magnitude-zero (toBits binary64 c) z)

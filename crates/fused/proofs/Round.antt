@@ -71,7 +71,7 @@ module _ (h l z : ℕ) (z-lt : z < 64) (h-lt : h * 2 ^ z < 2 ^ 64) (l-lt : l < 2
       one-more : (z : ℕ) → z < 64 → 1 + (63 - z) ≡ 64 - z
       one-more z h = omega arith
 
-  pub word-is : h * 2 ^ z % 2 ^ 64 + l / 2 / 2 ^ (63 - z) ≡ h * 2 ^ z + l / 2 ^ (64 - z)
+  word-is : h * 2 ^ z % 2 ^ 64 + l / 2 / 2 ^ (63 - z) ≡ h * 2 ^ z + l / 2 ^ (64 - z)
   word-is = ap₂ (λ (a b : ℕ). a + b) (mod-eq-of-lt h-lt) shifted-in
 
   join : 2 ^ (64 - z) * 2 ^ z ≡ 2 ^ 64

@@ -18,7 +18,7 @@ use Rattle.fused.proofs.Carry.{mul-lt-pow}
 use Rattle.fused.proofs.Round.{zeros-lt, normalized}
 
 -- what `unpacked` says of its result, for a magnitude m in units of the smallest float
-abbrev pub Unpacked : ℕ → ℕ → ℕ → Type 0
+abbrev Unpacked : ℕ → ℕ → ℕ → Type 0
 Unpacked m d e = (d * 2 ^ e ≡ m * 2 ^ 62) × (2 ^ 62 ≤ d) × (d < 2 ^ 63) × (d % 2 ≡ 0) × (e < 2100)
 
 -- ---- no leading digit: the digits are shifted up
@@ -64,7 +64,7 @@ module _ (l : ℕ) (l-pos : 0 < l) (l-lt : l < 2 ^ 52) where
   whole : l * 2 ^ (leadingZeros 64 l - 1) % 2 ^ 64 ≡ l * 2 ^ (leadingZeros 64 l - 1)
   whole = mod-eq-of-lt (lt-of-lt-of-le (half .1) (lit≤ tt))
 
-  pub subnormal : Unpacked l (l * 2 ^ (leadingZeros 64 l - 1) % 2 ^ 64) (63 - leadingZeros 64 l)
+  subnormal : Unpacked l (l * 2 ^ (leadingZeros 64 l - 1) % 2 ^ 64) (63 - leadingZeros 64 l)
   subnormal =
       subst (λ (d : ℕ). Unpacked l d (63 - leadingZeros 64 l)) (sym whole) (
         mul-assoc l (2 ^ (leadingZeros 64 l - 1)) (2 ^ (63 - leadingZeros 64 l)) ∙ ap (λ (k : ℕ). l * k) (sym (pow-add 2 (leadingZeros 64 l - 1) (63 - leadingZeros 64 l)) ∙ ap (λ (k : ℕ). 2 ^ k) (sums (leadingZeros 64 l) zeros-over zeros-under)),

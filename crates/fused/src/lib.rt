@@ -1,7 +1,7 @@
 // The fused multiply-add, module 1 of document 01: a * b + c with one rounding, for all operands.
 ghost use mathlib.Core.Path.{_≡_};
 ghost use Prim.Native.Nat.{_*_, _%_, _^_, _≤_, _<_};
-ghost use mathlib.Core.Bool.{not};
+ghost use mathlib.Core.Bool.{true, not};
 ghost use lib.Ieee.{binary64, isNan};
 ghost use lib.Ieee.Scale as Scale;
 ghost use Rattle.rules.specs.Fused.{fused};
@@ -74,23 +74,12 @@ fn finite(x: f64) -> bool
     x - x == 0.0
 }
 
-// a * b + c with one rounding, for all operands.
-//
-// Where an operand is not finite, or a factor is zero, the product needs no rounding. A zero addend
-// leaves the rounded product, whose sign it must not change; and an infinite one is the answer even
-// where the product alone would overflow.
-fn general(a: f64, b: f64, c: f64) -> f64
+// a * b + c of finite operands. With a zero factor the product needs no rounding. A zero addend leaves
+// the rounded product, whose sign it must not change.
+fn of_finite(a: f64, b: f64, c: f64) -> f64
+    requires { ⌜ (Scale.finite a ≡ true) × (Scale.finite b ≡ true) × (Scale.finite c ≡ true) ⌝ }
     ensures { λ r. ⌜ r ≡ fused binary64 a b c ⌝ }
 {
-    if !finite(a) {
-        return a * b + c;
-    }
-    if !finite(b) {
-        return a * b + c;
-    }
-    if !finite(c) {
-        return c;
-    }
     let x = f64::to_bits(a);
     let y = f64::to_bits(b);
     let z = f64::to_bits(c);
@@ -104,6 +93,23 @@ fn general(a: f64, b: f64, c: f64) -> f64
         return a * b;
     }
     of_bits(x, y, z)
+}
+
+// a * b + c with one rounding, for all operands. With a factor that is not finite the product needs no
+// rounding. An infinite addend is the answer even where the product alone would overflow.
+fn general(a: f64, b: f64, c: f64) -> f64
+    ensures { λ r. ⌜ r ≡ fused binary64 a b c ⌝ }
+{
+    if !finite(a) {
+        return a * b + c;
+    }
+    if !finite(b) {
+        return a * b + c;
+    }
+    if !finite(c) {
+        return c;
+    }
+    of_finite(a, b, c)
 }
 
 // Not a NaN, so that it has bits to look at.

@@ -17,7 +17,7 @@ use lib.Ieee.Bits.{cond-no, ofBits-toBits, nanBits-above}
 use lib.Ieee.Exact.{HasValue, units-val}
 use Rattle.rounding.proofs.Numbers.{less-or-not}
 
-pub size-is : (a n : ℕ) → 2 ^ a ≤ n → n < 2 ^ suc a → size n ≡ suc a
+size-is : (a n : ℕ) → 2 ^ a ≤ n → n < 2 ^ suc a → size n ≡ suc a
 size-is a n l u = le-antisymm (size-le n (suc a) u) (lt-of-not-le (λ (g : size n ≤ a). lt-irrefl n (lt-of-lt-of-le (size-lt n) (le-trans (pow-mono g) l))))
 
 -- a power of two is twice the one before
