@@ -93,7 +93,7 @@ common-nonzero x y z w =
     not-zero : (b : ℕ) → 0 < b % 2 ^ 63 / 2 ^ 52 → 0 < b % 2 ^ 63
     not-zero b h = omega arith
 
-pub at-product : (x y z n : ℕ) → Common x y z → field z + 1075 - (field x + field y) ≡ n → summed x y z
+at-product : (x y z n : ℕ) → Common x y z → field z + 1075 - (field x + field y) ≡ n → summed x y z
     ≡ Ieee.sum binary64 (unlike (leb (top binary64) x) (leb (top binary64) y)) ((2 ^ 52 + x % 2 ^ 52) * (2 ^ 52 + y % 2 ^ 52) * 2 ^ (field x + field y)) (leb (top binary64) z)
     ((2 ^ 52 + z % 2 ^ 52) * 2 ^ n * 2 ^ (field x + field y)) (2 ^ 2150)
 at-product x y z n w h =
@@ -172,7 +172,7 @@ is-common x y z r (a, b, c, d, k) w =
 
 -- ---- a product that lies far below the addend is shifted
 
-pub excess-room : (n : ℕ) → n < 126 → (n - (n - 62) ≤ 62) × (n - 62 < 64)
+excess-room : (n : ℕ) → n < 126 → (n - (n - 62) ≤ 62) × (n - 62 < 64)
 excess-room n h = (omega arith, omega arith)
 
 -- with no shift the sticky product is the product

@@ -57,18 +57,7 @@ add-converted : tie.Need-add-converted
 add-converted c = search needs
 
 add-converted-2 : tie.Need-add-converted-2
-add-converted-2 c =
-    let s = c .before .before .before .before .before .before .before .before .before .before .before .before .before in
-    let x = toBits binary64 (s .args .a) in
-    let y = toBits binary64 (s .args .b) in
-    let z = toBits binary64 (s .args .c) in
-    let n = c .before .before .before .before .before .before .wrapping-sub-u64 in
-    let k = c .before .before .before .before .before .common .ensures (c .before .before .before .before .if4 .taken) in
-    let w = is-common x y z (n .result) k (n .ensures) in
-    let o = c .before .before .before .excess in
-    let t = shift-room (n .result) (o .result) (o .ensures) (k .4) in
-    let f = common-fields x y z (w .0) in
-    omega (arith, t, f .5)
+add-converted-2 c = omega (arith, c .before .before .before .before .before .common .ensures (c .before .before .before .before .if4 .taken) .4, c .before .before .before .excess .ensures)
 
 converted-requires : tie.Need-converted-requires
 converted-requires c κs =
