@@ -123,25 +123,21 @@ fn number(x: f64) -> bool
 pub fn mul_add(a: f64, b: f64, c: f64) -> f64
     ensures { λ r. ⌜ r ≡ fused binary64 a b c ⌝ }
 {
-    if number(a) {
-        if number(b) {
-            if number(c) {
-                let x = f64::to_bits(a);
-                let y = f64::to_bits(b);
-                let z = f64::to_bits(c);
-                let fx = x % SIGN / HIDDEN;
-                let fy = y % SIGN / HIDDEN;
-                let fz = z % SIGN / HIDDEN;
-                let above = std::num::wrapping_sub_u64(fz + 1075, fx + fy);
-                if near::common(fx, fy, above) {
-                    let negative = (SIGN <= x) != (SIGN <= y);
-                    let like = negative == (SIGN <= z);
-                    let far = near::excess(above);
-                    let s = near::biased_sum(like, x, y, z, above - far, far);
-                    if near::long(s.high) {
-                        return near::converted(negative, s.high, s.low, fx + fy + far);
-                    }
-                }
+    if number(a) && number(b) && number(c) {
+        let x = f64::to_bits(a);
+        let y = f64::to_bits(b);
+        let z = f64::to_bits(c);
+        let fx = x % SIGN / HIDDEN;
+        let fy = y % SIGN / HIDDEN;
+        let fz = z % SIGN / HIDDEN;
+        let above = std::num::wrapping_sub_u64(fz + 1075, fx + fy);
+        if near::common(fx, fy, above) {
+            let negative = (SIGN <= x) != (SIGN <= y);
+            let like = negative == (SIGN <= z);
+            let far = near::excess(above);
+            let s = near::biased_sum(like, x, y, z, above - far, far);
+            if near::long(s.high) {
+                return near::converted(negative, s.high, s.low, fx + fy + far);
             }
         }
     }
