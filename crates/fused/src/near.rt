@@ -58,7 +58,10 @@ fn unbiased(high: u64) -> f64
 pub fn common(fx: u64, fy: u64, above: u64) -> bool
     ensures { λ r. ⌜ (r ≡ true → (600 ≤ fx) × (fx < 1450) × (600 ≤ fy) × (fy < 1450) × (above < 126)) ⌝ }
 {
-    if fx < 600 || 1450 <= fx || fy < 600 || 1450 <= fy {
+    if fx < 600 || 1450 <= fx {
+        return false;
+    }
+    if fy < 600 || 1450 <= fy {
         return false;
     }
     above < 126
