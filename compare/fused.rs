@@ -294,8 +294,11 @@ fn time() {
         let ours = |a, b, c| unsafe { spline_mul_add(a, b, c) };
         let default = |a: f64, b: f64, c: f64| a.mul_add(b, c);
         let (oi, di) = (independent(triples, ours), independent(triples, default));
-        let (oc, dc) =
-            if *plain { (chain(triples, ours), chain(triples, default)) } else { (sign_chain(triples, ours), sign_chain(triples, default)) };
+        let (oc, dc) = if *plain {
+            (chain(triples, ours), chain(triples, default))
+        } else {
+            (sign_chain(triples, ours), sign_chain(triples, default))
+        };
         let (nc, ni) = unsafe { native(triples, *plain) };
         println!("{name:25} {oc:11.2} {dc:7.2} {nc:6.2} {:6.2} {oi:18.2} {di:7.2} {ni:6.2} {:6.2}", oc / dc, oi / di);
     }

@@ -4,7 +4,7 @@ use Prim.Native.Nat.{ℕ, _+_, _*_, _^_, min}
 use native.Mathlib.Nat.{min-le-right, le-trans, le-of-eq, zero-add}
 use native.Mathlib.Omega.{arith}
 use mathlib.Core.Bool.{Bool, true, false, not, cond}
-use lib.Dec.{T}
+use lib.Dec.{T, lit≤}
 use lib.Ieee.{binary64, hid, ones, top, ofBits, nanBits}
 use lib.Ieee.Nearest.{closest}
 use borrow.Author.Needs.{needs}
@@ -36,10 +36,10 @@ add-result : tie.Need-add-result
 add-result c = search needs
 
 float-from-bits-result : tie.Need-float-from-bits-result
-float-from-bits-result c = no-nan binary64 true (c .before .smaller .result) (le-trans (le-of-eq (c .before .smaller .ensures)) (min-le-right _ _))
+float-from-bits-result c = no-nan binary64 true (c .before .smaller .result) (le-trans (le-of-eq (c .before .smaller .ensures)) (le-trans (min-le-right _ _) (lit≤ tt)))
 
 float-from-bits-result-2 : tie.Need-float-from-bits-result-2
-float-from-bits-result-2 c = subst (λ (b : ℕ). T (not (nanBits binary64 b))) (zero-add (c .before .smaller .result)) (no-nan binary64 false (c .before .smaller .result) (le-trans (le-of-eq (c .before .smaller .ensures)) (min-le-right _ _)))
+float-from-bits-result-2 c = subst (λ (b : ℕ). T (not (nanBits binary64 b))) (zero-add (c .before .smaller .result)) (no-nan binary64 false (c .before .smaller .result) (le-trans (le-of-eq (c .before .smaller .ensures)) (le-trans (min-le-right _ _) (lit≤ tt))))
 
 returns : tie.Need-returns
 returns c =
