@@ -1,8 +1,8 @@
 -- Sums modulo a base, with their carry. Assumes nothing.
-use mathlib.Core.Path.{_≡_, sym, ap, ap₂, _∙_}
+use mathlib.Core.Path.{_≡_, sym, ap, ap₂, _∙_, subst}
 use mathlib.Core.Logic.{inl, inr}
 use Prim.Native.Nat.{ℕ, _+_, _-_, _*_, _/_, _%_, _^_, _≤_, _<_}
-use native.Mathlib.Nat.{zero-mul, one-mul, zero-add, add-mul, mul-add, mul-assoc, mod-eq-of-lt, mod-eq-sub-mod, div-add-mod', mul-lt-mul-of-pos-right, lt-of-le-of-lt, lt-of-lt-of-le, mul-le-mul-left, le-of-lt, le-of-eq, add-comm, suc-mul, lt-of-mul-lt-mul-right, le-of-suc-le-suc, mul-le-mul-right, mul-right-comm, mul-left-comm}
+use native.Mathlib.Nat.{zero-mul, one-mul, zero-add, add-mul, mul-add, mul-assoc, mod-eq-of-lt, mod-eq-sub-mod, div-add-mod', mul-lt-mul-of-pos-right, lt-of-le-of-lt, lt-of-lt-of-le, mul-le-mul-left, le-of-lt, le-of-eq, add-comm, suc-mul, lt-of-mul-lt-mul-right, le-of-suc-le-suc, mul-le-mul-right, mul-right-comm, mul-mul-mul-comm, le-add-right}
 use native.Mathlib.Omega.{arith}
 use mathlib.Core.Bool.{Bool, cond}
 use lib.Dec.{ltb, lt→ltb, ltb→lt}
@@ -81,12 +81,9 @@ multiplied n a b k l e =
         let j : (a₁ * b₁ + h) * (n * n) ≡ a₁ * b₁ * (n * n) + h * n * n = add-mul (a₁ * b₁) h (n * n) ∙ ap (λ (x : ℕ). a₁ * b₁ * (n * n) + x) (sym (mul-assoc h n n)) in
         let o : h * n * n + r * n ≡ a₁ * b₀ * n + a₀ * b₁ * n = sym (add-mul (h * n) r n) ∙ ap (λ (x : ℕ). x * n) f ∙ add-mul (a₁ * b₀) (a₀ * b₁) n in
         let p : (a₁ * n + a₀) * (b₁ * n + b₀) ≡ a₁ * n * (b₁ * n + b₀) + a₀ * (b₁ * n + b₀) = add-mul (a₁ * n) a₀ (b₁ * n + b₀) in
-        let q : a₁ * n * (b₁ * n + b₀) ≡ a₁ * b₁ * (n * n) + a₁ * b₀ * n = mul-add (a₁ * n) (b₁ * n) b₀ ∙ ap₂ (λ (x y : ℕ). x + y) (crossed a₁ n b₁ n) (mul-right-comm a₁ n b₀) in
+        let q : a₁ * n * (b₁ * n + b₀) ≡ a₁ * b₁ * (n * n) + a₁ * b₀ * n = mul-add (a₁ * n) (b₁ * n) b₀ ∙ ap₂ (λ (x y : ℕ). x + y) (mul-mul-mul-comm a₁ n b₁ n) (mul-right-comm a₁ n b₀) in
         let s : a₀ * (b₁ * n + b₀) ≡ a₀ * b₁ * n + a₀ * b₀ = mul-add a₀ (b₁ * n) b₀ ∙ ap (λ (x : ℕ). x + a₀ * b₀) (sym (mul-assoc a₀ b₁ n)) in
         omega (arith, i, j, o, p, q, s, e)
-      where
-        crossed : (w x y z : ℕ) → w * x * (y * z) ≡ w * y * (x * z)
-        crossed w x y z = simp (mul-assoc, mul-left-comm)
 
 -- ---- the order of two numbers of two digits
 
@@ -102,3 +99,8 @@ less-high x a y b p q n =
     same-test (ltb x y) (ltb (x * 2 ^ 64 + a) (y * 2 ^ 64 + b))
     (λ h. let l = ltb→lt x y h in lt→ltb (x * 2 ^ 64 + a) (y * 2 ^ 64 + b) (omega (arith, l, p)))
     (λ h. let l = ltb→lt (x * 2 ^ 64 + a) (y * 2 ^ 64 + b) h in lt→ltb x y (lt-of-le-ne (omega (arith, l, q)) n))
+
+-- ---- the high digit of a bounded number
+
+pub high-lt : (h l y k : ℕ) → h * 2 ^ 64 + l ≡ y → y < 2 ^ (k + 64) → h < 2 ^ k
+high-lt h l y k e u = lt-of-mul-lt-mul-right (2 ^ 64) (lt-of-le-of-lt (le-add-right (h * 2 ^ 64) l) (subst (λ (a : ℕ). a < 2 ^ k * 2 ^ 64) (sym e) (subst (λ (a : ℕ). y < a) (pow-add 2 k 64) u)))

@@ -2,7 +2,7 @@
 use mathlib.Core.Path.{_≡_, refl, sym, ap, _∙_, subst}
 use mathlib.Core.Logic.{inl, inr}
 use Prim.Native.Nat.{ℕ, zero, suc, _+_, _-_, _*_, _%_, _^_, _≤_, _<_}
-use native.Mathlib.Nat.{le-of-lt, le-trans, lt-of-lt-of-le, lt-of-le-of-lt, mul-assoc, mul-comm, one-mul, add-mul, mul-lt-mul-of-pos-right, zero-mul, zero-add, le-add-right, mul-le-mul-left, lt-of-mul-lt-mul-right}
+use native.Mathlib.Nat.{le-of-lt, le-trans, lt-of-lt-of-le, lt-of-le-of-lt, mul-assoc, mul-comm, one-mul, add-mul, mul-lt-mul-of-pos-right, zero-mul, zero-add, le-add-right, mul-le-mul-left}
 use native.Mathlib.Omega.{arith}
 use mathlib.Core.Bool.{Bool, true, false, not, Bool·beq}
 use lib.Dec.{T, lit<, lit≤, ltb, ltb→lt, nltb→le}
@@ -16,6 +16,7 @@ use Rattle.rounding.proofs.Sticky.{sticky-add, sticky-from, sticky-less, sticky
 use Rattle.rounding.proofs.Sums.{sum-like, sum-more, sum-less, sum-none}
 use Rattle.rounding.proofs.Values.{round-shift, round-zero}
 use Rattle.fused.specs.Words.{Placed}
+use Rattle.fused.proofs.Carry.{high-lt}
 
 -- what `from_words` says of its result
 abbrev pub Rounds : Bool → ℕ → ℕ → ℕ → Float → Type 0
@@ -129,11 +130,8 @@ module _ (B S J d e : ℕ) (pb : Placed B) (ps : Placed S) (t : Sticky (2 ^ d) S
 -- ---- what the calls ask
 
 pub high-room : (bh bl jh jl s : ℕ) → bh * 2 ^ 64 + bl < 2 ^ 126 → s < 2 ^ 126 → jh * 2 ^ 64 + jl ≤ s → bh + jh < 2 ^ 63
-high-room bh bl jh jl s p q l = sum-lt bh jh (high bh bl p) (high jh jl (lt-of-le-of-lt l q))
+high-room bh bl jh jl s p q l = sum-lt bh jh (high-lt bh bl (bh * 2 ^ 64 + bl) 62 refl p) (high-lt jh jl (jh * 2 ^ 64 + jl) 62 refl (lt-of-le-of-lt l q))
   where
-    high : (h l : ℕ) → h * 2 ^ 64 + l < 2 ^ 126 → h < 2 ^ 62
-    high h l p = lt-of-mul-lt-mul-right (2 ^ 64) (lt-of-le-of-lt (le-add-right (h * 2 ^ 64) l) p)
-
     sum-lt : (a b : ℕ) → a < 2 ^ 62 → b < 2 ^ 62 → a + b < 2 ^ 63
     sum-lt a b p q = omega arith
 

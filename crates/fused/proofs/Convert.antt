@@ -23,7 +23,7 @@ use Rattle.rounding.specs.Weight.{weight}
 use Rattle.rounding.proofs.Numbers.{less-or-not, sub-mul}
 use Rattle.rounding.proofs.Sticky.{sticky-cut, sticky-add, sticky-from}
 use Rattle.rounding.proofs.Word.{round-sticky}
-use Rattle.rounding.proofs.Sums.{sum-like, sum-more}
+use Rattle.rounding.proofs.Sums.{not-not, sum-like, sum-more}
 use Rattle.rounding.proofs.Values.{bits-value, add-values, power-times, round-shift}
 use Rattle.fused.proofs.Shift.{Marked}
 use Rattle.fused.proofs.Unpack.{weight-more}
@@ -191,7 +191,7 @@ module _ (s : Bool) (h l j e : ℕ) (u p q : Float) (h-lt : h < 2 ^ 53) (h-ge : 
   converted-below v =
       add-values binary64 (mul binary64 u p) (mul binary64 (ofInt binary64 (pos j)) q) (not s) (h * 2 ^ 53 * 2 ^ (e - 1065)) s (j * 2 ^ (e - 1065)) (2 ^ 1074) (pow-pos 1074)
       (subst (λ (r : Bool). HasValue (mul binary64 u p) r (h * 2 ^ 53 * 2 ^ (e - 1065)) (2 ^ 1074)) (turned s) (high-value true v)) low-product
-      ∙ ap (λ (r : Bool). Ieee.sum binary64 (not s) (h * 2 ^ 53 * 2 ^ (e - 1065)) r (j * 2 ^ (e - 1065)) (2 ^ 1074)) (sym (twice s))
+      ∙ ap (λ (r : Bool). Ieee.sum binary64 (not s) (h * 2 ^ 53 * 2 ^ (e - 1065)) r (j * 2 ^ (e - 1065)) (2 ^ 1074)) (sym (not-not s))
       ∙ sum-more binary64 (not s) (h * 2 ^ 53 * 2 ^ (e - 1065)) (j * 2 ^ (e - 1065)) (2 ^ 1074) (mul-lt-mul-of-pos-right (omega arith) (pow-pos (e - 1065)))
       ∙ ap (λ (n : ℕ). round binary64 (not s) n (2 ^ 1074)) (sym (sub-mul (h * 2 ^ 53) j (2 ^ (e - 1065))))
       ∙ seen (not s) (h * 2 ^ 64 - l) (h * 2 ^ 53 - j) (subst (λ (n : ℕ). Sticky (2 ^ 11) (n - l) (h * 2 ^ 53 - j)) placed (sticky-from (2 ^ 11) (h * 2 ^ 53) l j even (omega arith) t)) (omega arith)
@@ -199,10 +199,6 @@ module _ (s : Bool) (h l j e : ℕ) (u p q : Float) (h-lt : h < 2 ^ 53) (h-ge : 
       turned : (s : Bool) → unlike true s ≡ not s
       turned true = refl
       turned false = refl
-
-      twice : (s : Bool) → not (not s) ≡ s
-      twice true = refl
-      twice false = refl
 
 pub fits-float : (j : ℕ) → j < 2 ^ 53 → T (inFloat binary64 (pos j))
 unfolding inFloat

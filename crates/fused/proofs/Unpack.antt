@@ -2,7 +2,7 @@
 use mathlib.Core.Path.{_≡_, refl, sym, ap, ap₂, _∙_, subst}
 use mathlib.Core.Logic.{inl, inr}
 use Prim.Native.Nat.{ℕ, zero, suc, _+_, _-_, _*_, _/_, _%_, _^_, _≤_, _<_}
-use native.Mathlib.Nat.{le-trans, lt-of-lt-of-le, mul-assoc, mul-left-comm, mul-pos, mul-mod-left, mod-eq-of-lt, mod-lt, mul-le-mul, mul-le-mul-right, mul-lt-mul-of-pos-right, eq-zero-or-pos, le-add-right}
+use native.Mathlib.Nat.{le-trans, lt-of-lt-of-le, mul-assoc, mul-pos, mul-mod-left, mod-eq-of-lt, mod-lt, mul-le-mul, mul-le-mul-right, mul-lt-mul-of-pos-right, eq-zero-or-pos, le-add-right, mul-mul-mul-comm}
 use native.Mathlib.Omega.{arith}
 use mathlib.Core.Bool.{Bool}
 use lib.Dec.{lit≤}
@@ -145,10 +145,7 @@ product-placed a b y e p q r s t u =
     halves a h = omega arith
 
     fours : (a b : ℕ) → a % 2 ≡ 0 → b % 2 ≡ 0 → a * b ≡ a / 2 * (b / 2) * 4
-    fours a b r u = ap₂ (λ (x y : ℕ). x * y) (halves a r) (halves b u) ∙ swap (a / 2) 2 (b / 2) 2
-      where
-        swap : (a c b d : ℕ) → a * c * (b * d) ≡ a * b * (c * d)
-        swap a c b d = simp (mul-assoc, mul-left-comm)
+    fours a b r u = ap₂ (λ (x y : ℕ). x * y) (halves a r) (halves b u) ∙ mul-mul-mul-comm (a / 2) 2 (b / 2) 2
 
 -- the addend's word as the high one
 lifted : (d : ℕ) → d % 2 ≡ 0 → d / 2 * 2 ^ 64 + 0 ≡ d * 2 ^ 63
@@ -169,17 +166,14 @@ pub magnitudes : (s u : Bool) (m₁ m₂ m₃ d₁ e₁ d₂ e₂ d₃ e₃ y : 
 magnitudes s u m₁ m₂ m₃ d₁ e₁ d₂ e₂ d₃ e₃ y h o p q r =
     sum-same binary64 s (y * 2 ^ (e₁ + e₂)) u ((d₃ / 2 * 2 ^ 64 + 0) * 2 ^ (e₃ + 1073)) (2 ^ 2272) (m₁ * m₂) (m₃ * 2 ^ 1074) (2 ^ 2148) (pow-pos 2272) (pow-pos 2148) first second
   where
-    four : (a b c d : ℕ) → a * b * (c * d) ≡ a * c * (b * d)
-    four a b c d = simp (mul-assoc, mul-left-comm)
-
     first : y * 2 ^ (e₁ + e₂) * 2 ^ 2148 ≡ m₁ * m₂ * 2 ^ 2272
     first =
-        ap (λ (k : ℕ). k * 2 ^ 2148) (ap₂ (λ (a b : ℕ). a * b) h (pow-add 2 e₁ e₂) ∙ four d₁ d₂ (2 ^ e₁) (2 ^ e₂) ∙ ap₂ (λ (a b : ℕ). a * b) p q ∙ four m₁ (2 ^ 62) m₂ (2 ^ 62))
+        ap (λ (k : ℕ). k * 2 ^ 2148) (ap₂ (λ (a b : ℕ). a * b) h (pow-add 2 e₁ e₂) ∙ mul-mul-mul-comm d₁ d₂ (2 ^ e₁) (2 ^ e₂) ∙ ap₂ (λ (a b : ℕ). a * b) p q ∙ mul-mul-mul-comm m₁ (2 ^ 62) m₂ (2 ^ 62))
         ∙ mul-assoc (m₁ * m₂) (2 ^ 62 * 2 ^ 62) (2 ^ 2148)
 
     second : (d₃ / 2 * 2 ^ 64 + 0) * 2 ^ (e₃ + 1073) * 2 ^ 2148 ≡ m₃ * 2 ^ 1074 * 2 ^ 2272
     second =
-        ap (λ (k : ℕ). k * 2 ^ 2148) (ap₂ (λ (a b : ℕ). a * b) (lifted d₃ o) (pow-add 2 e₃ 1073) ∙ four d₃ (2 ^ 63) (2 ^ e₃) (2 ^ 1073) ∙ ap (λ (k : ℕ). k * (2 ^ 63 * 2 ^ 1073)) r)
+        ap (λ (k : ℕ). k * 2 ^ 2148) (ap₂ (λ (a b : ℕ). a * b) (lifted d₃ o) (pow-add 2 e₃ 1073) ∙ mul-mul-mul-comm d₃ (2 ^ 63) (2 ^ e₃) (2 ^ 1073) ∙ ap (λ (k : ℕ). k * (2 ^ 63 * 2 ^ 1073)) r)
         ∙ mul-assoc (m₃ * 2 ^ 62) (2 ^ 63 * 2 ^ 1073) (2 ^ 2148)
         ∙ mul-assoc m₃ (2 ^ 62) (2 ^ 63 * 2 ^ 1073 * 2 ^ 2148)
         ∙ sym (mul-assoc m₃ (2 ^ 1074) (2 ^ 2272))

@@ -2,7 +2,7 @@
 use mathlib.Core.Path.{_≡_, refl, sym, ap, ap₂, _∙_, subst}
 use mathlib.Core.Logic.{_⊎_, inl, inr}
 use Prim.Native.Nat.{ℕ, _+_, _-_, _*_, _/_, _%_, _^_, _≤_, _<_}
-use native.Mathlib.Nat.{le-trans, le-of-lt, le-add-right, lt-of-le-of-lt, lt-of-lt-of-le, lt-of-mul-lt-mul-right, add-mul, mul-assoc, mul-left-comm, mul-lt-mul-of-pos-right, mod-eq-of-lt, mul-pos, add-zero, sub-zero}
+use native.Mathlib.Nat.{le-trans, le-of-lt, le-add-right, lt-of-le-of-lt, lt-of-lt-of-le, add-mul, mul-assoc, mul-lt-mul-of-pos-right, mod-eq-of-lt, mul-pos, add-zero, sub-zero, mul-mul-mul-comm}
 use native.Mathlib.Omega.{arith}
 use mathlib.Core.Bool.{Bool, true, false, not, cond, Bool·beq}
 use lib.Dec.{leb, lit≤}
@@ -22,9 +22,6 @@ use Rattle.fused.proofs.Unpack.{weight-more, low-lt}
 pub picked : (b : Bool) (sh sl dh dl p q h l : ℕ) → h ≡ cond b sh dh → l ≡ cond b sl dl → sh * 2 ^ 64 + sl ≡ p → dh * 2 ^ 64 + dl ≡ q → sl < 2 ^ 64 → dl < 2 ^ 64 → (h * 2 ^ 64 + l ≡ cond b p q) × (l < 2 ^ 64)
 picked true sh sl dh dl p q h l e f u v i j = (ap₂ (λ (a b : ℕ). a * 2 ^ 64 + b) e f ∙ u, subst (λ (a : ℕ). a < 2 ^ 64) (sym f) i)
 picked false sh sl dh dl p q h l e f u v i j = (ap₂ (λ (a b : ℕ). a * 2 ^ 64 + b) e f ∙ v, subst (λ (a : ℕ). a < 2 ^ 64) (sym f) j)
-
-pub high-lt : (h l y k : ℕ) → h * 2 ^ 64 + l ≡ y → y < 2 ^ (k + 64) → h < 2 ^ k
-high-lt h l y k e u = lt-of-mul-lt-mul-right (2 ^ 64) (lt-of-le-of-lt (le-add-right (h * 2 ^ 64) l) (subst (λ (a : ℕ). a < 2 ^ k * 2 ^ 64) (sym e) (subst (λ (a : ℕ). y < a) (pow-add 2 k 64) u)))
 
 -- the significand of a normal float
 pub digits-lt : (x : ℕ) → 2 ^ 52 + x % 2 ^ 52 < 2 ^ 53
@@ -48,15 +45,12 @@ biased-lt false p c y i j e = omega arith
 
 products : (a b f g m n : ℕ) → 0 < f → 0 < g → a * 2 ^ (f - 1) ≡ m → b * 2 ^ (g - 1) ≡ n → m * n * 2 ^ 2150 ≡ a * b * 2 ^ (f + g) * 2 ^ 2148
 products a b f g m n p q e h =
-    ap (λ (k : ℕ). k * 2 ^ 2150) (ap₂ (λ (i j : ℕ). i * j) (sym e) (sym h) ∙ four a (2 ^ (f - 1)) b (2 ^ (g - 1)))
+    ap (λ (k : ℕ). k * 2 ^ 2150) (ap₂ (λ (i j : ℕ). i * j) (sym e) (sym h) ∙ mul-mul-mul-comm a (2 ^ (f - 1)) b (2 ^ (g - 1)))
     ∙ mul-assoc (a * b) (2 ^ (f - 1) * 2 ^ (g - 1)) (2 ^ 2150)
     ∙ ap (λ (k : ℕ). a * b * k)
     (ap (λ (k : ℕ). k * 2 ^ 2150) (sym (pow-add 2 (f - 1) (g - 1))) ∙ sym (pow-add 2 (f - 1 + (g - 1)) 2150) ∙ ap (λ (k : ℕ). 2 ^ k) (sums f g p q) ∙ pow-add 2 (f + g) 2148)
     ∙ sym (mul-assoc (a * b) (2 ^ (f + g)) (2 ^ 2148))
   where
-    four : (a b c d : ℕ) → a * b * (c * d) ≡ a * c * (b * d)
-    four a b c d = simp (mul-assoc, mul-left-comm)
-
     sums : (f g : ℕ) → 0 < f → 0 < g → f - 1 + (g - 1) + 2150 ≡ f + g + 2148
     sums f g p q = omega arith
 

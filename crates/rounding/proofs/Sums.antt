@@ -17,6 +17,10 @@ same-test true false p q = absurd (p tt)
 same-test false true p q = absurd (q tt)
 same-test false false p q = refl
 
+pub not-not : (s : Bool) → not (not s) ≡ s
+not-not true = refl
+not-not false = refl
+
 sum-is : (f : Format) (s : Bool) (a : ℕ) (t : Bool) (b c : ℕ)
     → sum f s a t b c ≡ cond (Bool·beq s t) (round f s (a + b) c) (cond (ltb a b) (round f t (b - a) c) (round f (s && ltb b a) (a - b) c))
 unfolding sum
@@ -88,10 +92,6 @@ sum-swap f s a t b c = go s t
             ap (λ (x : ℕ). sum f s x (not s) b c) e ∙ sum-none f s b c ∙ sym (sum-none f (not s) b c) ∙ ap (λ (x : ℕ). sum f (not s) b (not (not s)) x c) (sym e)
       ]
     ]
-      where
-        not-not : (s : Bool) → not (not s) ≡ s
-        not-not true = refl
-        not-not false = refl
 
     same : (s : Bool) → sum f s a s b c ≡ sum f s b s a c
     same s = sum-like f s a b c ∙ ap (λ (x : ℕ). round f s x c) (add-comm a b) ∙ sym (sum-like f s b a c)

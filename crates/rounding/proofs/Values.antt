@@ -2,7 +2,7 @@
 -- sum of any fractions that the values equal. Assumes nothing.
 use mathlib.Core.Path.{_≡_, refl, sym, ap, ap₂, _∙_, subst}
 use Prim.Native.Nat.{ℕ, zero, suc, _+_, _-_, _*_, _/_, _%_, _^_, _≤_, _<_, compare, compare·zero-zero, compare·zero-suc}
-use native.Mathlib.Nat.{zero-mul, mul-one, one-mul, mul-comm, mul-assoc, mul-left-comm, mul-right-comm, mul-pos, zero-div, zero-mod, mod-lt, div-lt-iff-lt-mul, zero-lt-suc, le-of-suc-le-suc}
+use native.Mathlib.Nat.{zero-mul, mul-one, one-mul, mul-comm, mul-assoc, mul-right-comm, mul-pos, zero-div, zero-mod, mod-lt, div-lt-iff-lt-mul, zero-lt-suc, le-of-suc-le-suc, mul-mul-mul-comm}
 use native.Mathlib.Omega.{arith}
 use mathlib.Core.Bool.{Bool, true, false, not, cond}
 use lib.IntN.{ℤ, pos, negsuc, _+ℤ_, subℕ}
@@ -126,12 +126,9 @@ add-values f (fin u m e) (fin r n d) s a t b c p (i, v) (j, w) =
     (mul-right-comm (m * up e) (down d) c ∙ ap (λ (z : ℕ). z * down d) v ∙ mul-assoc a (down e) (down d))
     (mul-right-comm (n * up d) (down e) c ∙ ap (λ (z : ℕ). z * down e) w ∙ mul-assoc b (down d) (down e) ∙ ap (λ (z : ℕ). b * z) (mul-comm (down d) (down e)))
 
-four : (p q c d : ℕ) → p * q * (c * d) ≡ p * c * (q * d)
-four p q c d = simp (mul-assoc, mul-left-comm)
-
 -- (p / q) * (p′ / q′) = (a / c) * (b / d)
 pub cross-product : (p c a q p′ d b q′ : ℕ) → p * c ≡ a * q → p′ * d ≡ b * q′ → p * p′ * (c * d) ≡ a * b * (q * q′)
-cross-product p c a q p′ d b q′ v w = four p p′ c d ∙ ap₂ (λ (x y : ℕ). x * y) v w ∙ four a q b q′
+cross-product p c a q p′ d b q′ v w = mul-mul-mul-comm p p′ c d ∙ ap₂ (λ (x y : ℕ). x * y) v w ∙ mul-mul-mul-comm a q b q′
 
 pub mul-values : (f : Format) (x y : Float) (s : Bool) (a c : ℕ) (t : Bool) (b d : ℕ) → 0 < c → 0 < d → HasValue x s a c → HasValue y t b d
     → mul f x y ≡ round f (unlike s t) (a * b) (c * d)
@@ -149,7 +146,7 @@ mul-values f (fin u m e) (fin r n z) s a c t b d p q (i, v) (j, w) =
 pub round-shift : (f : Format) (s : Bool) (x v a b c d : ℕ) → 0 < v → a + d ≡ c + b → round f s (x * 2 ^ a) (v * 2 ^ b) ≡ round f s (x * 2 ^ c) (v * 2 ^ d)
 round-shift f s x v a b c d p e =
     round-same f s (x * 2 ^ a) (v * 2 ^ b) (x * 2 ^ c) (v * 2 ^ d) (mul-pos p (pow-pos b)) (mul-pos p (pow-pos d))
-    (four x (2 ^ a) v (2 ^ d) ∙ ap (λ (n : ℕ). x * v * n) (sym (pow-add 2 a d) ∙ ap (λ (n : ℕ). 2 ^ n) e ∙ pow-add 2 c b) ∙ sym (four x (2 ^ c) v (2 ^ b)))
+    (mul-mul-mul-comm x (2 ^ a) v (2 ^ d) ∙ ap (λ (n : ℕ). x * v * n) (sym (pow-add 2 a d) ∙ ap (λ (n : ℕ). 2 ^ n) e ∙ pow-add 2 c b) ∙ sym (mul-mul-mul-comm x (2 ^ c) v (2 ^ b)))
 
 -- A whole number of the format's digits times a power of two that the format holds is exact.
 pub power-times : (f : Format) (u p : Float) (t s : Bool) (h k : ℕ) → h < 2 ^ prec f → h * 2 ^ k < 2 ^ (low f + suc (emax f)) → HasValue u t h 1 → HasValue p s (2 ^ k) (2 ^ low f)

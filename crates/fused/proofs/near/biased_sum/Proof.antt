@@ -7,7 +7,8 @@ use lib.Pow.{pow-pos}
 use borrow.Author.Needs.{needs}
 use Rattle.rounding.specs.Sticky.{Sticky}
 use Rattle.rounding.proofs.Sticky.{sticky-le}
-use Rattle.fused.proofs.Window.{high-lt, product-lt, addend-lt, biased-lt, bias-value}
+use Rattle.fused.proofs.Carry.{high-lt}
+use Rattle.fused.proofs.Window.{product-lt, addend-lt, biased-lt, bias-value}
 use Rattle.fused.proofs.near.biased_sum.Statement.{statement}
 use Rattle.fused.proofs.near.biased_sum.Tie as tie
 
