@@ -10,6 +10,7 @@
 
 use nalgebra::DMatrix;
 use path::OutOfRangeMode;
+use random::Random;
 use spline::{coefficients, SplineConfig, SplinePath};
 
 mod diag {
@@ -23,6 +24,8 @@ mod diag {
     }
 }
 
+mod random;
+
 mod path {
     #[derive(Clone, Copy, Debug)]
     pub enum OutOfRangeMode {
@@ -35,19 +38,7 @@ mod path {
 #[allow(dead_code)]
 mod spline;
 
-/// xorshift64*: the same trials for the same seed.
-struct Random(u64);
-
 impl Random {
-    fn next(&mut self) -> u64 {
-        self.0 ^= self.0 >> 12;
-        self.0 ^= self.0 << 25;
-        self.0 ^= self.0 >> 27;
-        self.0.wrapping_mul(0x2545_f491_4f6c_dd1d)
-    }
-    fn below(&mut self, n: u64) -> u64 {
-        (self.next() >> 11) % n
-    }
     fn one_in(&mut self, n: u64) -> bool {
         self.below(n) == 0
     }
@@ -56,7 +47,7 @@ impl Random {
     }
     /// From 0 up to 1.
     fn unit(&mut self) -> f64 {
-        (self.next() >> 11) as f64 / (1u64 << 53) as f64
+        (self.bits() >> 11) as f64 / (1u64 << 53) as f64
     }
     /// A small whole number, a number with all its digits, a zero of either sign, or one far off in size.
     fn coordinate(&mut self) -> f64 {
@@ -74,7 +65,7 @@ impl Random {
     fn float(&mut self) -> f64 {
         match self.below(3) {
             0 => self.pick(&[f64::MIN_POSITIVE, -5e-324, 1.5, 1.0 + f64::EPSILON, 1.0 - f64::EPSILON / 2.0]),
-            1 => f64::from_bits(self.next()),
+            1 => f64::from_bits(self.bits()),
             _ => self.coordinate(),
         }
     }
@@ -503,7 +494,7 @@ fn main() {
     println!("says s number good = eqb (checkMaster s .number) number && Bool·beq (checkMaster s .good) good\n");
     for kind in [build, query, fused_steps, refused_build, refused_query, master_check] {
         for trial in 0..count {
-            let name = format!("trial-{}", random.next());
+            let name = format!("trial-{}", random.bits());
             println!("{name} : T ({})\n{unfolding} ofBits\n{name} = tt\n", kind(&mut random, trial));
         }
     }

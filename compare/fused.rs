@@ -8,8 +8,11 @@
 //! Expected bits come from `f64::mul_add` with the processor's own instruction: the program refuses to
 //! run without it. A NaN equals every NaN; all else is compared bit for bit.
 
+use random::Random;
 use std::hint::black_box;
 use std::time::Instant;
+
+mod random;
 
 #[link(name = "capi", kind = "static")]
 extern "C" {
@@ -18,19 +21,7 @@ extern "C" {
 
 type Triple = (f64, f64, f64);
 
-/// xorshift64*: the same triples for the same seed.
-struct Random(u64);
-
 impl Random {
-    fn bits(&mut self) -> u64 {
-        self.0 ^= self.0 >> 12;
-        self.0 ^= self.0 << 25;
-        self.0 ^= self.0 >> 27;
-        self.0.wrapping_mul(0x2545_f491_4f6c_dd1d)
-    }
-    fn below(&mut self, n: u64) -> u64 {
-        (self.bits() >> 11) % n
-    }
     fn between(&mut self, low: i64, high: i64) -> i64 {
         assert!(low <= high);
         low + self.below((high - low + 1) as u64) as i64

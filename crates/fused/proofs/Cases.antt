@@ -2,10 +2,10 @@
 use mathlib.Core.Path.{_≡_, refl, sym, ap, _∙_, subst}
 use mathlib.Core.Logic.{inl, inr}
 use Prim.Native.Nat.{ℕ, zero, suc, _+_, _-_, _*_, _%_, _^_, _≤_, _<_}
-use native.Mathlib.Nat.{le-of-lt, le-trans, lt-of-lt-of-le, lt-of-le-of-lt, mul-assoc, mul-comm, one-mul, add-mul, mul-lt-mul-of-pos-right, zero-mul, zero-add, le-add-right, mul-le-mul-left}
+use native.Mathlib.Nat.{le-of-lt, le-trans, lt-of-lt-of-le, lt-of-le-of-lt, mul-assoc, mul-comm, mul-lt-mul-of-pos-right, zero-mul, zero-add, le-add-right, mul-le-mul-left}
 use native.Mathlib.Omega.{arith}
 use mathlib.Core.Bool.{Bool, true, false, not, Bool·beq}
-use lib.Dec.{T, lit<, lit≤, ltb, ltb→lt, nltb→le}
+use lib.Dec.{T, lit≤, ltb, ltb→lt, nltb→le}
 use lib.IntN.{pos}
 use lib.Pow.{pow-add, pow-pos, pow-mono}
 use lib.Ieee.{Float, fin, binary64, round, ofBits}
@@ -13,8 +13,8 @@ use lib.Ieee as Ieee
 use Rattle.rounding.specs.Sticky.{Sticky}
 use Rattle.rounding.proofs.Numbers.{less-or-not, sub-mul}
 use Rattle.rounding.proofs.Sticky.{sticky-add, sticky-from, sticky-less, sticky-below, sticky-above}
-use Rattle.rounding.proofs.Sums.{sum-like, sum-more, sum-less, sum-none}
-use Rattle.rounding.proofs.Values.{round-shift, round-zero}
+use Rattle.rounding.proofs.Sums.{like-times, more-times, less-times, sum-none}
+use Rattle.rounding.proofs.Values.{round-move, round-zero}
 use Rattle.fused.specs.Words.{Placed}
 use Rattle.fused.proofs.Carry.{high-lt}
 
@@ -63,21 +63,22 @@ module _ (B S J d e : ℕ) (pb : Placed B) (ps : Placed S) (t : Sticky (2 ^ d) S
   even : (n : ℕ) → n % 4 ≡ 0 → n % 2 ≡ 0
   even n h = omega arith
 
-  pub exact : B < J + 2 ^ 65 → S ≡ J * 2 ^ d
+  exact : B < J + 2 ^ 65 → S ≡ J * 2 ^ d
   exact h = near-exact (2 ^ 122) B S J d (lit≤ tt) (pb .0) (ps .1) (ps .2) t h
 
   -- the exact sum, over 2 ^ d
   scaled : (s : Bool) (x : ℕ) → round binary64 s (x * 2 ^ (e + d)) (2 ^ d * 2 ^ 2272) ≡ round binary64 s (x * 2 ^ e) (2 ^ 2272)
   scaled s x =
-      ap (round binary64 s (x * 2 ^ (e + d))) (sym (pow-add 2 d 2272) ∙ sym (one-mul (2 ^ (d + 2272))))
-      ∙ round-shift binary64 s x 1 (e + d) (d + 2272) e 2272 (lit< tt) (sums e d)
-      ∙ ap (round binary64 s (x * 2 ^ e)) (one-mul (2 ^ 2272))
+      ap (round binary64 s (x * 2 ^ (e + d))) (sym (pow-add 2 d 2272)) ∙ round-move binary64 s x (e + d) (d + 2272) e 2272 (sums e d)
     where
       sums : (e d : ℕ) → e + d + 2272 ≡ e + (d + 2272)
       sums e d = omega arith
 
-  big : B * 2 ^ d * 2 ^ e ≡ B * 2 ^ (e + d)
-  big = mul-assoc B (2 ^ d) (2 ^ e) ∙ ap (λ (a : ℕ). B * a) (mul-comm (2 ^ d) (2 ^ e) ∙ sym (pow-add 2 e d))
+  joined : B * 2 ^ d * 2 ^ e ≡ B * 2 ^ (e + d)
+  joined = mul-assoc B (2 ^ d) (2 ^ e) ∙ ap (λ (a : ℕ). B * a) (mul-comm (2 ^ d) (2 ^ e) ∙ sym (pow-add 2 e d))
+
+  big : (s r : Bool) → Ieee.sum binary64 s (B * 2 ^ d * 2 ^ e) r (S * 2 ^ e) (2 ^ 2272) ≡ Ieee.sum binary64 s (B * 2 ^ (e + d)) r (S * 2 ^ e) (2 ^ 2272)
+  big s r = ap (λ (n : ℕ). Ieee.sum binary64 s n r (S * 2 ^ e) (2 ^ 2272)) joined
 
   -- two words that hold much have a high one
   not-short : (h l y : ℕ) → l < 2 ^ 64 → h * 2 ^ 64 + l ≡ y → 2 ^ 64 ≤ y → h ≡ 0 → ⊥
@@ -88,8 +89,8 @@ module _ (B S J d e : ℕ) (pb : Placed B) (ps : Placed S) (t : Sticky (2 ^ d) S
       k (2 ^ d) (B * 2 ^ d + S) (pow-pos d) (subst (Sticky (2 ^ d) (B * 2 ^ d + S)) (sym y) (sticky-add (2 ^ d) B S J (even B (pb .2)) t))
       (λ z. absurd (not-short h l (B + J) a y (le-trans (le-trans (lit≤ tt) (pb .0)) (le-add-right B J)) z))
       ∙ scaled s (B * 2 ^ d + S)
-      ∙ ap (λ (n : ℕ). round binary64 s n (2 ^ 2272)) (add-mul (B * 2 ^ d) S (2 ^ e) ∙ ap (λ (n : ℕ). n + S * 2 ^ e) big)
-      ∙ sym (sum-like binary64 s (B * 2 ^ (e + d)) (S * 2 ^ e) (2 ^ 2272))
+      ∙ sym (like-times binary64 s (B * 2 ^ d) S (2 ^ e) (2 ^ 2272))
+      ∙ big s s
 
   -- where the two words are one, all is exact
   one-word : (h l y x m : ℕ) → h * 2 ^ 64 + l ≡ y → x ≡ y * m → h ≡ 0 → x ≡ l * m
@@ -100,8 +101,8 @@ module _ (B S J d e : ℕ) (pb : Placed B) (ps : Placed S) (t : Sticky (2 ^ d) S
       k (2 ^ d) (B * 2 ^ d - S) (pow-pos d) (subst (Sticky (2 ^ d) (B * 2 ^ d - S)) (sym y) (sticky-from (2 ^ d) B S J (even B (pb .2)) (le-of-lt j) t))
       (λ z. one-word h l (B - J) (B * 2 ^ d - S) (2 ^ d) y (ap (λ (n : ℕ). B * 2 ^ d - n) (exact (near h l B J a y z)) ∙ sym (sub-mul B J (2 ^ d))) z)
       ∙ scaled s (B * 2 ^ d - S)
-      ∙ ap (λ (n : ℕ). round binary64 s n (2 ^ 2272)) (sub-mul (B * 2 ^ d) S (2 ^ e) ∙ ap (λ (n : ℕ). n - S * 2 ^ e) big)
-      ∙ sym (sum-more binary64 s (B * 2 ^ (e + d)) (S * 2 ^ e) (2 ^ 2272) (subst (λ (n : ℕ). S * 2 ^ e < n) big (mul-lt-mul-of-pos-right (sticky-below (2 ^ d) S J B (pow-pos d) (even B (pb .2)) j t) (pow-pos e))))
+      ∙ sym (more-times binary64 s (B * 2 ^ d) S (2 ^ e) (2 ^ 2272) (pow-pos e) (sticky-below (2 ^ d) S J B (pow-pos d) j t))
+      ∙ big s (not s)
     where
       near : (h l B J : ℕ) → l < 2 ^ 64 → h * 2 ^ 64 + l ≡ B - J → h ≡ 0 → B < J + 2 ^ 65
       near h l B J a y z = omega arith
@@ -112,15 +113,15 @@ module _ (B S J d e : ℕ) (pb : Placed B) (ps : Placed S) (t : Sticky (2 ^ d) S
       k (2 ^ d) (S - B * 2 ^ d) (pow-pos d) (subst (Sticky (2 ^ d) (S - B * 2 ^ d)) (sym y) (sticky-less (2 ^ d) B S J (even B (pb .2)) (le-of-lt j) t))
       (λ z. one-word h l (J - B) (S - B * 2 ^ d) (2 ^ d) y (ap (λ (n : ℕ). n - B * 2 ^ d) x ∙ sym (sub-mul J B (2 ^ d))) z)
       ∙ scaled (not s) (S - B * 2 ^ d)
-      ∙ ap (λ (n : ℕ). round binary64 (not s) n (2 ^ 2272)) (sub-mul S (B * 2 ^ d) (2 ^ e) ∙ ap (λ (n : ℕ). S * 2 ^ e - n) big)
-      ∙ sym (sum-less binary64 s (B * 2 ^ (e + d)) (S * 2 ^ e) (2 ^ 2272) (subst (λ (n : ℕ). n < S * 2 ^ e) big (mul-lt-mul-of-pos-right (subst (λ (n : ℕ). B * 2 ^ d < n) (sym x) (mul-lt-mul-of-pos-right j (pow-pos d))) (pow-pos e))))
+      ∙ sym (less-times binary64 s (B * 2 ^ d) S (2 ^ e) (2 ^ 2272) (pow-pos e) (subst (λ (n : ℕ). B * 2 ^ d < n) (sym x) (mul-lt-mul-of-pos-right j (pow-pos d))))
+      ∙ big s (not s)
     where
       near : (B J : ℕ) → B < J → B < J + 2 ^ 65
       near B J j = omega arith
 
   pub none : (s : Bool) → J ≡ B → fin false 0 (pos 0) ≡ Ieee.sum binary64 s (B * 2 ^ (e + d)) (not s) (S * 2 ^ e) (2 ^ 2272)
   none s j =
-      sym (ap (λ (n : ℕ). Ieee.sum binary64 s (B * 2 ^ (e + d)) (not s) n (2 ^ 2272)) (ap (λ (n : ℕ). n * 2 ^ e) (exact (near B J j) ∙ ap (λ (n : ℕ). n * 2 ^ d) j) ∙ big)
+      sym (ap (λ (n : ℕ). Ieee.sum binary64 s (B * 2 ^ (e + d)) (not s) n (2 ^ 2272)) (ap (λ (n : ℕ). n * 2 ^ e) (exact (near B J j) ∙ ap (λ (n : ℕ). n * 2 ^ d) j) ∙ joined)
       ∙ sum-none binary64 s (B * 2 ^ (e + d)) (2 ^ 2272)
       ∙ round-zero binary64 false (2 ^ 2272))
     where

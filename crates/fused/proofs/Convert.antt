@@ -2,7 +2,7 @@
 use mathlib.Core.Path.{_≡_, refl, sym, ap, ap₂, _∙_, subst}
 use mathlib.Core.Logic.{inl, inr}
 use Prim.Native.Nat.{ℕ, suc, _+_, _-_, _*_, _/_, _%_, _^_, _≤_, _<_}
-use native.Mathlib.Nat.{le-of-eq, le-of-lt, lt-of-lt-of-le, lt-of-le-of-lt, one-mul, mul-assoc, add-mul, mul-lt-mul-of-pos-right, div-add-mod', zero-lt-suc, le-add-right, eq-zero-or-pos}
+use native.Mathlib.Nat.{le-of-eq, le-of-lt, lt-of-lt-of-le, lt-of-le-of-lt, mul-assoc, div-add-mod', le-add-right, eq-zero-or-pos}
 use native.Mathlib.Omega.{arith}
 use mathlib.Core.Bool.{Bool, true, false, not, cond}
 use lib.Dec.{T, leb, ltb, lit≤, le→leb, lt→ltb}
@@ -20,11 +20,11 @@ use lib.Ieee.Exact.{HasValue}
 use lib.Ieee.Nearest.{div-same}
 use Rattle.rounding.specs.Sticky.{Sticky}
 use Rattle.rounding.specs.Weight.{weight}
-use Rattle.rounding.proofs.Numbers.{less-or-not, sub-mul}
+use Rattle.rounding.proofs.Numbers.{less-or-not}
 use Rattle.rounding.proofs.Sticky.{sticky-cut, sticky-add, sticky-from}
 use Rattle.rounding.proofs.Word.{round-sticky}
-use Rattle.rounding.proofs.Sums.{not-not, sum-like, sum-more}
-use Rattle.rounding.proofs.Values.{bits-value, add-values, power-times, round-shift}
+use Rattle.rounding.proofs.Sums.{not-not, like-times, more-times}
+use Rattle.rounding.proofs.Values.{bits-value, add-values, power-times, round-move}
 use Rattle.fused.proofs.Shift.{Marked}
 use Rattle.fused.proofs.Unpack.{weight-more}
 
@@ -161,11 +161,7 @@ module _ (s : Bool) (h l j e : ℕ) (u p q : Float) (h-lt : h < 2 ^ 53) (h-ge : 
   -- the sum of the two is rounded, and does not see what the sticky bit stands for
   seen : (r : Bool) (x y : ℕ) → Sticky (2 ^ 11) x y → 2 ^ 54 ≤ y → round binary64 r (y * 2 ^ (e - 1065)) (2 ^ 1074) ≡ round binary64 r (x * 2 ^ e) (2 ^ 2150)
   seen r x y a b =
-      ap (round binary64 r (y * 2 ^ (e - 1065))) (sym (one-mul (2 ^ 1074)))
-      ∙ sym (round-sticky binary64 r (2 ^ 11) x y (e - 1065) 1074 (pow-pos 11) a b (room e))
-      ∙ ap (round binary64 r (x * 2 ^ (e - 1065))) (sym (one-mul (2 ^ 1085)))
-      ∙ round-shift binary64 r x 1 (e - 1065) 1085 e 2150 (zero-lt-suc 0) (sums e e-ge)
-      ∙ ap (round binary64 r (x * 2 ^ e)) (one-mul (2 ^ 2150))
+      sym (round-sticky binary64 r (2 ^ 11) x y (e - 1065) 1074 (pow-pos 11) a b (room e)) ∙ round-move binary64 r x (e - 1065) 1085 e 2150 (sums e e-ge)
     where
       room : (e : ℕ) → 1074 ≤ e - 1065 + 1074 + 2
       room e = omega arith
@@ -183,8 +179,7 @@ module _ (s : Bool) (h l j e : ℕ) (u p q : Float) (h-lt : h < 2 ^ 53) (h-ge : 
   converted-above v =
       add-values binary64 (mul binary64 u p) (mul binary64 (ofInt binary64 (pos j)) q) s (h * 2 ^ 53 * 2 ^ (e - 1065)) s (j * 2 ^ (e - 1065)) (2 ^ 1074) (pow-pos 1074)
       (subst (λ (r : Bool). HasValue (mul binary64 u p) r (h * 2 ^ 53 * 2 ^ (e - 1065)) (2 ^ 1074)) (plain s) (high-value false v)) low-product
-      ∙ sum-like binary64 s (h * 2 ^ 53 * 2 ^ (e - 1065)) (j * 2 ^ (e - 1065)) (2 ^ 1074)
-      ∙ ap (λ (n : ℕ). round binary64 s n (2 ^ 1074)) (sym (add-mul (h * 2 ^ 53) j (2 ^ (e - 1065))))
+      ∙ like-times binary64 s (h * 2 ^ 53) j (2 ^ (e - 1065)) (2 ^ 1074)
       ∙ seen s (h * 2 ^ 64 + l) (h * 2 ^ 53 + j) (subst (λ (n : ℕ). Sticky (2 ^ 11) (n + l) (h * 2 ^ 53 + j)) placed (sticky-add (2 ^ 11) (h * 2 ^ 53) l j even t)) (omega arith)
 
   pub converted-below : HasValue u true h 1 → add binary64 (mul binary64 u p) (mul binary64 (ofInt binary64 (pos j)) q) ≡ round binary64 (not s) ((h * 2 ^ 64 - l) * 2 ^ e) (2 ^ 2150)
@@ -192,8 +187,7 @@ module _ (s : Bool) (h l j e : ℕ) (u p q : Float) (h-lt : h < 2 ^ 53) (h-ge : 
       add-values binary64 (mul binary64 u p) (mul binary64 (ofInt binary64 (pos j)) q) (not s) (h * 2 ^ 53 * 2 ^ (e - 1065)) s (j * 2 ^ (e - 1065)) (2 ^ 1074) (pow-pos 1074)
       (subst (λ (r : Bool). HasValue (mul binary64 u p) r (h * 2 ^ 53 * 2 ^ (e - 1065)) (2 ^ 1074)) (turned s) (high-value true v)) low-product
       ∙ ap (λ (r : Bool). Ieee.sum binary64 (not s) (h * 2 ^ 53 * 2 ^ (e - 1065)) r (j * 2 ^ (e - 1065)) (2 ^ 1074)) (sym (not-not s))
-      ∙ sum-more binary64 (not s) (h * 2 ^ 53 * 2 ^ (e - 1065)) (j * 2 ^ (e - 1065)) (2 ^ 1074) (mul-lt-mul-of-pos-right (omega arith) (pow-pos (e - 1065)))
-      ∙ ap (λ (n : ℕ). round binary64 (not s) n (2 ^ 1074)) (sym (sub-mul (h * 2 ^ 53) j (2 ^ (e - 1065))))
+      ∙ more-times binary64 (not s) (h * 2 ^ 53) j (2 ^ (e - 1065)) (2 ^ 1074) (pow-pos (e - 1065)) (omega arith)
       ∙ seen (not s) (h * 2 ^ 64 - l) (h * 2 ^ 53 - j) (subst (λ (n : ℕ). Sticky (2 ^ 11) (n - l) (h * 2 ^ 53 - j)) placed (sticky-from (2 ^ 11) (h * 2 ^ 53) l j even (omega arith) t)) (omega arith)
     where
       turned : (s : Bool) → unlike true s ≡ not s

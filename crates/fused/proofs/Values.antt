@@ -12,7 +12,7 @@ use lib.Ieee.Fits.{and-i, down-pos}
 use lib.Ieee.Exact.{HasValue}
 use lib.Ieee.Scale.{finite}
 use Rattle.rules.specs.Fused.{exactProduct, fused}
-use Rattle.rounding.proofs.Sums.{sum-like, sum-more, sum-none}
+use Rattle.rounding.proofs.Sums.{by-signs, sum-like, sum-more, sum-none}
 use Rattle.rounding.proofs.Values.{power-add, cross-product, value-scaled, add-values, mul-values, round-zero}
 
 -- ---- finite operands
@@ -63,7 +63,7 @@ pub zero-addend : (f : Format) (x y z : Float) (s : Bool) (a : ℕ) (t : Bool) (
     → mul f x y ≡ fused f x y z
 zero-addend f x y z s a t b u c d p v w k l e =
     mul-values f x y s a d t b d p p v w
-    ∙ sym (alone (unlike s t) u)
+    ∙ sym (by-signs (λ (r u : Bool). sum f r (a * b) u 0 (d * d) ≡ round f r (a * b) (d * d)) like other (unlike s t) u)
     ∙ ap (λ (n : ℕ). sum f (unlike s t) (a * b) u n (d * d)) (sym (ap (λ (n : ℕ). n * d) e ∙ zero-mul d))
     ∙ sym (fused-values f x y z s a t b u c d p v w k)
   where
@@ -72,12 +72,6 @@ zero-addend f x y z s a t b u c d p v w k l e =
 
     other : (r : Bool) → sum f r (a * b) (not r) 0 (d * d) ≡ round f r (a * b) (d * d)
     other r = sum-more f r (a * b) 0 (d * d) l ∙ ap (λ (n : ℕ). round f r n (d * d)) (sub-zero (a * b))
-
-    alone : (r u : Bool) → sum f r (a * b) u 0 (d * d) ≡ round f r (a * b) (d * d)
-    alone true true = like true
-    alone true false = other true
-    alone false true = other false
-    alone false false = like false
 
 -- ---- operands that are not finite
 

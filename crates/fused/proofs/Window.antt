@@ -2,7 +2,7 @@
 use mathlib.Core.Path.{_≡_, refl, sym, ap, ap₂, _∙_, subst}
 use mathlib.Core.Logic.{_⊎_, inl, inr}
 use Prim.Native.Nat.{ℕ, _+_, _-_, _*_, _/_, _%_, _^_, _≤_, _<_}
-use native.Mathlib.Nat.{le-trans, le-of-lt, le-add-right, lt-of-le-of-lt, lt-of-lt-of-le, add-mul, mul-assoc, mul-lt-mul-of-pos-right, mod-eq-of-lt, mul-pos, add-zero, sub-zero, mul-mul-mul-comm}
+use native.Mathlib.Nat.{le-trans, le-of-lt, le-add-right, lt-of-le-of-lt, lt-of-lt-of-le, mul-assoc, mod-eq-of-lt, mul-pos, add-zero, sub-zero, mul-mul-mul-comm}
 use native.Mathlib.Omega.{arith}
 use mathlib.Core.Bool.{Bool, true, false, not, cond, Bool·beq}
 use lib.Dec.{leb, lit≤}
@@ -10,10 +10,10 @@ use lib.Pow.{pow-add, pow-pos, pow-mono, shl-lt}
 use lib.Ieee.{Float, binary64, unlike, top, round}
 use lib.Ieee as Ieee
 use Rattle.rounding.specs.Sticky.{Sticky}
-use Rattle.rounding.proofs.Numbers.{less-or-not, sub-mul}
+use Rattle.rounding.proofs.Numbers.{less-or-not}
 use Rattle.rounding.proofs.Sticky.{sticky-le}
 use Rattle.rounding.proofs.Word.{sum-sticky}
-use Rattle.rounding.proofs.Sums.{sum-same, sum-like, sum-more, sum-less}
+use Rattle.rounding.proofs.Sums.{sum-same, like-times, more-times, less-times}
 use Rattle.fused.specs.Parts.{field, magnitude, Common, Nonzero, summed, biasedSum, Converts}
 use Rattle.fused.proofs.Carry.{mul-lt-pow}
 use Rattle.fused.proofs.Cases.{signs-like, signs-unlike}
@@ -104,9 +104,7 @@ module _ (s : Bool) (p c h l e : ℕ) (r : Float) (l-lt : l < 2 ^ 64) (k : Conve
   came-like : h * 2 ^ 64 + l ≡ 2 ^ 115 + p + c → r ≡ Ieee.sum binary64 s (p * 2 ^ e) s (c * 2 ^ e) (2 ^ 2150)
   came-like y = elim far [
     | inl g ↦
-        k .0 g
-        ∙ ap (λ (n : ℕ). round binary64 s n (2 ^ 2150)) (ap (λ (n : ℕ). n * 2 ^ e) (off h l p c y g) ∙ add-mul p c (2 ^ e))
-        ∙ sym (sum-like binary64 s (p * 2 ^ e) (c * 2 ^ e) (2 ^ 2150))
+        k .0 g ∙ ap (λ (n : ℕ). round binary64 s (n * 2 ^ e) (2 ^ 2150)) (off h l p c y g) ∙ sym (like-times binary64 s p c (2 ^ e) (2 ^ 2150))
     | inr g ↦ absurd (no h l p c l-lt y g)
   ]
     where
@@ -120,14 +118,10 @@ module _ (s : Bool) (p c h l e : ℕ) (r : Float) (l-lt : l < 2 ^ 64) (k : Conve
   came-unlike i y = elim far [
     | inl g ↦
         let m = more h l p c i y g in
-        k .0 g
-        ∙ ap (λ (n : ℕ). round binary64 s n (2 ^ 2150)) (ap (λ (n : ℕ). n * 2 ^ e) (m .0) ∙ sub-mul p c (2 ^ e))
-        ∙ sym (sum-more binary64 s (p * 2 ^ e) (c * 2 ^ e) (2 ^ 2150) (mul-lt-mul-of-pos-right (m .1) (pow-pos e)))
+        k .0 g ∙ ap (λ (n : ℕ). round binary64 s (n * 2 ^ e) (2 ^ 2150)) (m .0) ∙ sym (more-times binary64 s p c (2 ^ e) (2 ^ 2150) (pow-pos e) (m .1))
     | inr g ↦
         let m = fewer h l p c l-lt i y g in
-        k .1 g
-        ∙ ap (λ (n : ℕ). round binary64 (not s) n (2 ^ 2150)) (ap (λ (n : ℕ). n * 2 ^ e) (m .0) ∙ sub-mul c p (2 ^ e))
-        ∙ sym (sum-less binary64 s (p * 2 ^ e) (c * 2 ^ e) (2 ^ 2150) (mul-lt-mul-of-pos-right (m .1) (pow-pos e)))
+        k .1 g ∙ ap (λ (n : ℕ). round binary64 (not s) (n * 2 ^ e) (2 ^ 2150)) (m .0) ∙ sym (less-times binary64 s p c (2 ^ e) (2 ^ 2150) (pow-pos e) (m .1))
   ]
     where
       more : (h l p c : ℕ) → c ≤ 2 ^ 115 + p → h * 2 ^ 64 + l ≡ 2 ^ 115 + p - c → 2 ^ 51 + 4 ≤ h → ((h - 2 ^ 51) * 2 ^ 64 + l ≡ p - c) × (c < p)

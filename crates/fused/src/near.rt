@@ -25,7 +25,7 @@ const BIAS: u64 = 0x8_0000_0000_0000;
 // m * 2^n.
 fn lifted(m: u64, n: u64) -> Words
     requires { ⌜ n < 64 ⌝ }
-    ensures { λ r. ⌜ (value r ≡ m * 2 ^ n) × (r .low < 2 ^ 64) ⌝ }
+    ensures { λ r. ⌜ value r ≡ m * 2 ^ n ⌝ }
 {
     Words {
         high: (m >> 1) >> (63 - n),

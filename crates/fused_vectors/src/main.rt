@@ -1,7 +1,9 @@
 // Replays a list of fused multiply-adds that a processor worked out (compare/fused list): a line has
 // the bits of a, b, c and of a * b + c, each as 16 hexadecimal digits. Prints how many there were,
 // and how many came out unlike.
+ghost use mathlib.Core.Path.{_≡_};
 ghost use Prim.Native.Nat.{_≤_};
+ghost use lib.Ieee.{binary64, nanBits};
 use libc::STDIN_FILENO;
 use libc::STDOUT_FILENO;
 
@@ -24,13 +26,15 @@ fn number(line: &[u8; 68], from: usize) -> u64
     n
 }
 
-fn is_nan(bits: u64) -> bool {
+fn is_nan(bits: u64) -> bool
+    ensures { λ r. ⌜ r ≡ nanBits binary64 bits ⌝ }
+{
     0x7ff0_0000_0000_0000 < bits % 0x8000_0000_0000_0000
 }
 
 // Every NaN's bits are read as the one NaN.
 fn float(bits: u64) -> f64 {
-    if 0x7ff0_0000_0000_0000 < bits % 0x8000_0000_0000_0000 {
+    if is_nan(bits) {
         return 0.0 / 0.0;
     }
     f64::from_bits(bits)

@@ -1,5 +1,5 @@
 -- Laws of `Sticky`: how it comes about, what it goes through, and that rounding to a multiple of four sees no difference. Assumes nothing.
-use mathlib.Core.Path.{_≡_, refl, sym, ap, ap₂, _∙_, subst}
+use mathlib.Core.Path.{_≡_, sym, ap, ap₂, _∙_, subst}
 use mathlib.Core.Logic.{_⊎_, inl, inr}
 use Prim.Native.Nat.{ℕ, suc, _+_, _-_, _*_, _/_, _%_, _≤_, _<_, compare}
 use native.Mathlib.Nat.{le-trans, le-of-eq, lt-of-lt-of-le, lt-of-le-of-lt, add-mul, suc-mul, mul-assoc, mul-comm, mul-right-comm, mul-left-comm, mul-pos, mul-one, mul-le-mul-left, mul-le-mul-right, mul-lt-mul-of-pos-right, div-add-mod', le-of-lt, mod-lt, mul-mod-left, eq-zero-or-pos}
@@ -130,21 +130,18 @@ sticky-again v w x y z p q (inr (o, l, u)) h = inr (odd h, lower h, upper h)
     upper : Sticky w y z → x < suc z * (w * v)
     upper s = lt-of-lt-of-le u (le-trans (mul-le-mul-right v (high′ s)) (le-of-eq (mul-assoc (suc z) w v)))
 
--- ---- even numbers are bounds of both alike
+-- ---- bounds of y are bounds of x: from above any, from below an even one
 
-pub sticky-below : (v x y t : ℕ) → 0 < v → t % 2 ≡ 0 → y < t → Sticky v x y → x < t * v
-sticky-below v x y t p e h (inl g) = subst (λ (a : ℕ). a < t * v) (sym g) (mul-lt-mul-of-pos-right h p)
-sticky-below v x y t p e h (inr (o, l, u)) = lt-of-lt-of-le u (mul-le-mul-right v h)
+pub sticky-below : (v x y t : ℕ) → 0 < v → y < t → Sticky v x y → x < t * v
+sticky-below v x y t p h (inl g) = subst (λ (a : ℕ). a < t * v) (sym g) (mul-lt-mul-of-pos-right h p)
+sticky-below v x y t p h (inr (o, l, u)) = lt-of-lt-of-le u (mul-le-mul-right v h)
 
 pub sticky-above : (v x y t : ℕ) → t % 2 ≡ 0 → t ≤ y → Sticky v x y → t * v ≤ x
 sticky-above v x y t e h (inl g) = le-trans (mul-le-mul-right v h) (le-of-eq (sym g))
-sticky-above v x y t e h (inr (o, l, u)) = le-trans (mul-le-mul-right v (room t y e h o)) (le-trans (le-of-suc l) (le-of-eq refl))
+sticky-above v x y t e h (inr (o, l, u)) = le-trans (mul-le-mul-right v (room t y e h o)) (le-of-lt l)
   where
     room : (t y : ℕ) → t % 2 ≡ 0 → t ≤ y → y % 2 ≡ 1 → t ≤ y - 1
     room t y e h o = omega arith
-
-    le-of-suc : {a b : ℕ} → a < b → a ≤ b
-    le-of-suc {a} {b} k = omega arith
 
 -- ---- what rounding sees
 

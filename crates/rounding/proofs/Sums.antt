@@ -21,6 +21,13 @@ pub not-not : (s : Bool) → not (not s) ≡ s
 not-not true = refl
 not-not false = refl
 
+-- two signs are alike, or the second is the other
+pub by-signs : (P : Bool → Bool → Type 0) → ((s : Bool) → P s s) → ((s : Bool) → P s (not s)) → (s t : Bool) → P s t
+by-signs P like other true true = like true
+by-signs P like other true false = other true
+by-signs P like other false true = other false
+by-signs P like other false false = like false
+
 sum-is : (f : Format) (s : Bool) (a : ℕ) (t : Bool) (b c : ℕ)
     → sum f s a t b c ≡ cond (Bool·beq s t) (round f s (a + b) c) (cond (ltb a b) (round f t (b - a) c) (round f (s && ltb b a) (a - b) c))
 unfolding sum
@@ -80,7 +87,7 @@ sum-none f s a c =
     and-false false = refl
 
 pub sum-swap : (f : Format) (s : Bool) (a : ℕ) (t : Bool) (b c : ℕ) → sum f s a t b c ≡ sum f t b s a c
-sum-swap f s a t b c = go s t
+sum-swap f s a t b c = by-signs (λ (s t : Bool). sum f s a t b c ≡ sum f t b s a c) same swapped s t
   where
     other : (s : Bool) → sum f s a (not s) b c ≡ sum f (not s) b (not (not s)) a c
     other s = elim (less-or-not a b) [
@@ -96,8 +103,16 @@ sum-swap f s a t b c = go s t
     same : (s : Bool) → sum f s a s b c ≡ sum f s b s a c
     same s = sum-like f s a b c ∙ ap (λ (x : ℕ). round f s x c) (add-comm a b) ∙ sym (sum-like f s b a c)
 
-    go : (s t : Bool) → sum f s a t b c ≡ sum f t b s a c
-    go true true = same true
-    go true false = other true
-    go false true = other false
-    go false false = same false
+    swapped : (s : Bool) → sum f s a (not s) b c ≡ sum f (not s) b s a c
+    swapped s = other s ∙ ap (λ (t : Bool). sum f (not s) b t a c) (not-not s)
+
+-- ---- the same of two multiples
+
+pub like-times : (f : Format) (s : Bool) (a b m c : ℕ) → sum f s (a * m) s (b * m) c ≡ round f s ((a + b) * m) c
+like-times f s a b m c = sum-like f s (a * m) (b * m) c ∙ ap (λ (n : ℕ). round f s n c) (sym (add-mul a b m))
+
+pub more-times : (f : Format) (s : Bool) (a b m c : ℕ) → 0 < m → b < a → sum f s (a * m) (not s) (b * m) c ≡ round f s ((a - b) * m) c
+more-times f s a b m c p l = sum-more f s (a * m) (b * m) c (mul-lt-mul-of-pos-right l p) ∙ ap (λ (n : ℕ). round f s n c) (sym (sub-mul a b m))
+
+pub less-times : (f : Format) (s : Bool) (a b m c : ℕ) → 0 < m → a < b → sum f s (a * m) (not s) (b * m) c ≡ round f (not s) ((b - a) * m) c
+less-times f s a b m c p l = sum-less f s (a * m) (b * m) c (mul-lt-mul-of-pos-right l p) ∙ ap (λ (n : ℕ). round f (not s) n c) (sym (sub-mul b a m))

@@ -148,6 +148,10 @@ round-shift f s x v a b c d p e =
     round-same f s (x * 2 ^ a) (v * 2 ^ b) (x * 2 ^ c) (v * 2 ^ d) (mul-pos p (pow-pos b)) (mul-pos p (pow-pos d))
     (mul-mul-mul-comm x (2 ^ a) v (2 ^ d) ∙ ap (λ (n : ℕ). x * v * n) (sym (pow-add 2 a d) ∙ ap (λ (n : ℕ). 2 ^ n) e ∙ pow-add 2 c b) ∙ sym (mul-mul-mul-comm x (2 ^ c) v (2 ^ b)))
 
+pub round-move : (f : Format) (s : Bool) (x a b c d : ℕ) → a + d ≡ c + b → round f s (x * 2 ^ a) (2 ^ b) ≡ round f s (x * 2 ^ c) (2 ^ d)
+round-move f s x a b c d e =
+    ap (round f s (x * 2 ^ a)) (sym (one-mul (2 ^ b))) ∙ round-shift f s x 1 a b c d (zero-lt-suc 0) e ∙ ap (round f s (x * 2 ^ c)) (one-mul (2 ^ d))
+
 -- A whole number of the format's digits times a power of two that the format holds is exact.
 pub power-times : (f : Format) (u p : Float) (t s : Bool) (h k : ℕ) → h < 2 ^ prec f → h * 2 ^ k < 2 ^ (low f + suc (emax f)) → HasValue u t h 1 → HasValue p s (2 ^ k) (2 ^ low f)
     → HasValue (mul f u p) (unlike t s) (h * 2 ^ k) (2 ^ low f)

@@ -2,9 +2,9 @@
 use mathlib.Core.Path.{_≡_, sym, ap, ap₂, _∙_, subst, subst₂}
 use mathlib.Core.Logic.{_⊎_, inl, inr}
 use Prim.Native.Nat.{ℕ, suc, _+_, _-_, _*_, _/_, _%_, _^_, _≤_, _<_, compare, min}
-use native.Mathlib.Nat.{le-trans, le-of-eq, lt-of-lt-of-le, lt-irrefl, lt-of-not-le, mul-comm, mul-assoc, mul-left-comm, mul-pos, mul-le-mul-right, mul-lt-mul-of-pos-right, div-lt-iff-lt-mul, le-div-iff-mul-le, mul-mod-left, one-mul, mul-one, zero-lt-suc, add-mul, add-comm, le-add-right, le-add-left, le-of-lt}
+use native.Mathlib.Nat.{le-trans, le-of-eq, lt-of-lt-of-le, lt-irrefl, lt-of-not-le, mul-comm, mul-assoc, mul-left-comm, mul-pos, mul-le-mul-right, mul-lt-mul-of-pos-right, div-lt-iff-lt-mul, le-div-iff-mul-le, mul-mod-left, one-mul, mul-one, zero-lt-suc, add-comm, le-add-right, le-add-left, le-of-lt}
 use native.Mathlib.Omega.{arith}
-use mathlib.Core.Bool.{Bool, true, false, not, cond}
+use mathlib.Core.Bool.{Bool, not, cond}
 use lib.Dec.{T}
 use lib.Pow.{pow-add, pow-pos, pow-mono, shr-lt}
 use lib.Ieee.{Float, Format, prec, low, size, round, units, sum, fits, hid, ones, top, ofBits}
@@ -12,9 +12,8 @@ use lib.Ieee.Digits.{size-lt, size-le, size-reaches}
 use lib.Ieee.Fits.{two, round-is, round-fits, nearest-le}
 use lib.Ieee.Nearest.{closest, closest-same, nearest-ge}
 use Rattle.rounding.specs.Sticky.{Sticky}
-use Rattle.rounding.proofs.Numbers.{sub-mul}
 use Rattle.rounding.proofs.Sticky.{sticky-add, sticky-from, sticky-below, sticky-above, closest-sticky}
-use Rattle.rounding.proofs.Sums.{sum-like, sum-less}
+use Rattle.rounding.proofs.Sums.{by-signs, like-times, less-times}
 use Rattle.rounding.proofs.Pattern.{Digits, units-bits}
 
 even-power : (d : ℕ) → 0 < d → 2 ^ d % 2 ≡ 0
@@ -54,7 +53,7 @@ module _ (f : Format) (s : Bool) (v x w g h k d : ℕ) (v-pos : 0 < v) (two-drop
       div-lt-iff-lt-mul den-pos .1
       (subst (λ (a : ℕ). n < a) (ap (λ (a : ℕ). a * v * 2 ^ (g + low f)) (pow-add 2 (prec f) d) ∙ bound (2 ^ prec f) ∙ ap (λ (a : ℕ). a * den) (sym (pow-add 2 (prec f) k)))
       (subst (λ (a : ℕ). a < 2 ^ (prec f + d) * v * 2 ^ (g + low f)) (sym n-is)
-      (mul-lt-mul-of-pos-right (sticky-below v x w (2 ^ (prec f + d)) v-pos (even-power (prec f + d) (omega arith)) short sticky) (pow-pos (g + low f)))))
+      (mul-lt-mul-of-pos-right (sticky-below v x w (2 ^ (prec f + d)) v-pos short sticky) (pow-pos (g + low f)))))
 
   above : 2 ^ (prec f - 1 + d) ≤ w → 2 ^ (prec f - 1 + k) ≤ n / den
   above l =
@@ -91,7 +90,7 @@ module _ (f : Format) (s : Bool) (v x w g h k d : ℕ) (v-pos : 0 < v) (two-drop
       split d h = omega arith
 
       sort : (x g d v : ℕ) → x * g * (d * v) ≡ x * (1 * d * v * g)
-      sort x g d v = ap (λ (a : ℕ). a) (simp (one-mul, mul-assoc, mul-comm, mul-left-comm))
+      sort x g d v = simp (one-mul, mul-assoc, mul-comm, mul-left-comm)
 
   kept : Digits (prec f) (closest w (2 ^ d)) k
   kept = (le-trans (nearest-le (w / 2 ^ d) (compare (w % 2 ^ d * 2) (2 ^ d))) (shr-lt (prec f) d short), go long)
@@ -108,7 +107,7 @@ module _ (f : Format) (s : Bool) (v x w g h k d : ℕ) (v-pos : 0 < v) (two-drop
       is ∙ units-bits f s (closest w (2 ^ d)) k (subst (λ (y : Float). T (fits f y)) is (round-fits f s (x * 2 ^ g) den)) kept
 
 -- A sticky number of at least prec + 2 digits rounds as what it stands for.
-pub round-sticky : (f : Format) (s : Bool) (v x y g h : ℕ) → 0 < v → Sticky v x y → 2 ^ suc (prec f) ≤ y → h ≤ g + low f + 2 → round f s (x * 2 ^ g) (v * 2 ^ h) ≡ round f s (y * 2 ^ g) (1 * 2 ^ h)
+pub round-sticky : (f : Format) (s : Bool) (v x y g h : ℕ) → 0 < v → Sticky v x y → 2 ^ suc (prec f) ≤ y → h ≤ g + low f + 2 → round f s (x * 2 ^ g) (v * 2 ^ h) ≡ round f s (y * 2 ^ g) (2 ^ h)
 round-sticky f s v x y g h p t l u =
     let d = size y - prec f in
     let many : suc (prec f) < size y = lt-of-not-le (λ (n : size y ≤ suc (prec f)). lt-irrefl y (lt-of-lt-of-le (size-lt y) (le-trans (pow-mono n) l))) in
@@ -116,7 +115,7 @@ round-sticky f s v x y g h p t l u =
     λ v x p t.
     round-word f s v x y g h (g + low f + d - h) d p (two-more (size y) (prec f) many) (scales g (low f) d h (two-more (size y) (prec f) many) u) t
     (subst (λ (a : ℕ). y < 2 ^ a) (whole (size y) (prec f) many) (size-lt y)) (inr (size-reaches y (prec f - 1 + d) (below (size y) (prec f) many (two f)))) in
-    at v x p t ∙ sym (at 1 y (zero-lt-suc 0) (inl (sym (mul-one y))))
+    at v x p t ∙ sym (at 1 y (zero-lt-suc 0) (inl (sym (mul-one y)))) ∙ ap (round f s (y * 2 ^ g)) (one-mul (2 ^ h))
   where
     two-more : (z p : ℕ) → suc p < z → 2 ≤ z - p
     two-more z p h = omega arith
@@ -131,45 +130,29 @@ round-sticky f s v x y g h p t l u =
     below z p h k = omega arith
 
 -- Where the second term outweighs a first one that is sticky, the sum rounds as that of what it stands for.
-module _ (f : Format) (s t : Bool) (v p q c e h : ℕ) (v-pos : 0 < v) (sticky : Sticky v p q) (even : c % 2 ≡ 0) (big : 2 ^ suc (prec f) + q ≤ c) (scale : h ≤ e + low f + 2) where
-  seen : (r : Bool) (x y : ℕ) → Sticky v x y → 2 ^ suc (prec f) ≤ y → round f r (y * 2 ^ e) (2 ^ h) ≡ round f r (x * 2 ^ e) (v * 2 ^ h)
-  seen r x y k l = ap (round f r (y * 2 ^ e)) (sym (one-mul (2 ^ h))) ∙ sym (round-sticky f r v x y e h v-pos k l scale)
+pub sum-sticky : (f : Format) (s t : Bool) (v p q c e h : ℕ) → 0 < v → Sticky v p q → c % 2 ≡ 0 → 2 ^ suc (prec f) + q ≤ c → h ≤ e + low f + 2
+    → sum f s (q * 2 ^ e) t (c * 2 ^ e) (2 ^ h) ≡ sum f s (p * 2 ^ e) t (c * v * 2 ^ e) (v * 2 ^ h)
+sum-sticky f s t v p q c e h v-pos sticky even big scale =
+    by-signs (λ (s t : Bool). sum f s (q * 2 ^ e) t (c * 2 ^ e) (2 ^ h) ≡ sum f s (p * 2 ^ e) t (c * v * 2 ^ e) (v * 2 ^ h)) like other s t
+  where
+    less : q < c
+    less = lt-of-lt-of-le (grown (2 ^ suc (prec f)) q (pow-pos (suc (prec f)))) big
+      where
+        grown : (w q : ℕ) → 0 < w → q < w + q
+        grown w q a = omega arith
 
-  less : q < c
-  less = more (2 ^ suc (prec f)) q c (pow-pos (suc (prec f))) big
-    where
-      more : (w q c : ℕ) → 0 < w → w + q ≤ c → q < c
-      more w q c a b = omega arith
+    like : (s : Bool) → sum f s (q * 2 ^ e) s (c * 2 ^ e) (2 ^ h) ≡ sum f s (p * 2 ^ e) s (c * v * 2 ^ e) (v * 2 ^ h)
+    like s =
+        like-times f s q c (2 ^ e) (2 ^ h)
+        ∙ sym (round-sticky f s v (p + c * v) (q + c) e h v-pos (subst₂ (Sticky v) (add-comm (c * v) p) (add-comm c q) (sticky-add v c p q even sticky))
+        (le-trans (le-add-right (2 ^ suc (prec f)) q) (le-trans big (le-add-left c q))) scale)
+        ∙ sym (like-times f s p (c * v) (2 ^ e) (v * 2 ^ h))
 
-  p-less : p < c * v
-  p-less = sticky-below v p q c v-pos even less sticky
-
-  like : sum f s (q * 2 ^ e) s (c * 2 ^ e) (2 ^ h) ≡ sum f s (p * 2 ^ e) s (c * v * 2 ^ e) (v * 2 ^ h)
-  like =
-      sum-like f s (q * 2 ^ e) (c * 2 ^ e) (2 ^ h)
-      ∙ ap (λ (n : ℕ). round f s n (2 ^ h)) (sym (add-mul q c (2 ^ e)))
-      ∙ seen s (p + c * v) (q + c) (subst₂ (Sticky v) (add-comm (c * v) p) (add-comm c q) (sticky-add v c p q even sticky)) (le-trans (le-add-right (2 ^ suc (prec f)) q) (le-trans big (le-add-left c q)))
-      ∙ ap (λ (n : ℕ). round f s n (v * 2 ^ h)) (add-mul p (c * v) (2 ^ e))
-      ∙ sym (sum-like f s (p * 2 ^ e) (c * v * 2 ^ e) (v * 2 ^ h))
-
-  unlike : sum f s (q * 2 ^ e) (not s) (c * 2 ^ e) (2 ^ h) ≡ sum f s (p * 2 ^ e) (not s) (c * v * 2 ^ e) (v * 2 ^ h)
-  unlike =
-      sum-less f s (q * 2 ^ e) (c * 2 ^ e) (2 ^ h) (mul-lt-mul-of-pos-right less (pow-pos e))
-      ∙ ap (λ (n : ℕ). round f (not s) n (2 ^ h)) (sym (sub-mul c q (2 ^ e)))
-      ∙ seen (not s) (c * v - p) (c - q) (sticky-from v c p q even (le-of-lt less) sticky) (left (2 ^ suc (prec f)) q c big)
-      ∙ ap (λ (n : ℕ). round f (not s) n (v * 2 ^ h)) (sub-mul (c * v) p (2 ^ e))
-      ∙ sym (sum-less f s (p * 2 ^ e) (c * v * 2 ^ e) (v * 2 ^ h) (mul-lt-mul-of-pos-right p-less (pow-pos e)))
-    where
-      left : (w q c : ℕ) → w + q ≤ c → w ≤ c - q
-      left w q c h = omega arith
-
-  pub sum-sticky : sum f s (q * 2 ^ e) t (c * 2 ^ e) (2 ^ h) ≡ sum f s (p * 2 ^ e) t (c * v * 2 ^ e) (v * 2 ^ h)
-  sum-sticky = go s t like unlike
-    where
-      go : (s t : Bool) → sum f s (q * 2 ^ e) s (c * 2 ^ e) (2 ^ h) ≡ sum f s (p * 2 ^ e) s (c * v * 2 ^ e) (v * 2 ^ h)
-          → sum f s (q * 2 ^ e) (not s) (c * 2 ^ e) (2 ^ h) ≡ sum f s (p * 2 ^ e) (not s) (c * v * 2 ^ e) (v * 2 ^ h)
-          → sum f s (q * 2 ^ e) t (c * 2 ^ e) (2 ^ h) ≡ sum f s (p * 2 ^ e) t (c * v * 2 ^ e) (v * 2 ^ h)
-      go true true a b = a
-      go true false a b = b
-      go false true a b = b
-      go false false a b = a
+    other : (s : Bool) → sum f s (q * 2 ^ e) (not s) (c * 2 ^ e) (2 ^ h) ≡ sum f s (p * 2 ^ e) (not s) (c * v * 2 ^ e) (v * 2 ^ h)
+    other s =
+        less-times f s q c (2 ^ e) (2 ^ h) (pow-pos e) less
+        ∙ sym (round-sticky f (not s) v (c * v - p) (c - q) e h v-pos (sticky-from v c p q even (le-of-lt less) sticky) (left (2 ^ suc (prec f)) q c big) scale)
+        ∙ sym (less-times f s p (c * v) (2 ^ e) (v * 2 ^ h) (pow-pos e) (sticky-below v p q c v-pos less sticky))
+      where
+        left : (w q c : ℕ) → w + q ≤ c → w ≤ c - q
+        left w q c h = omega arith

@@ -41,7 +41,7 @@ biased-requires c κs =
     let s = c .before .shifted in
     let d = c .lifted in (
       lt-of-lt-of-le (high-lt (s .result .high) (s .result .low) (s .result .high * 2 ^ 64 + s .result .low) 42 refl (shifted-lt (a .x) (a .y) (a .far) (p .result .high * 2 ^ 64 + p .result .low) (s .result .high * 2 ^ 64 + s .result .low) (p .ensures) (s .ensures))) (lit≤ tt),
-      high-lt (d .result .high) (d .result .low) ((2 ^ 52 + a .z % 2 ^ 52) * 2 ^ a .n) 51 (d .ensures .0) (addend-lt (a .z) (a .n) (le-of-suc-le-suc (c .before .before .before .pre))),
+      high-lt (d .result .high) (d .result .low) ((2 ^ 52 + a .z % 2 ^ 52) * 2 ^ a .n) 51 (d .ensures) (addend-lt (a .z) (a .n) (le-of-suc-le-suc (c .before .before .before .pre))),
     )
 
 returns : tie.Need-returns
@@ -52,7 +52,7 @@ returns c =
     let d = c .before .lifted in
     let r = c .biased in
     let m = (2 ^ 52 + a .z % 2 ^ 52) * 2 ^ a .n in
-    let v = bias-value (a .like) (s .result .high) (s .result .low) (d .result .high) (d .result .low) (s .result .high * 2 ^ 64 + s .result .low) m (r .result .high * 2 ^ 64 + r .result .low) refl (d .ensures .0) (r .ensures .0) in (
+    let v = bias-value (a .like) (s .result .high) (s .result .low) (d .result .high) (d .result .low) (s .result .high * 2 ^ 64 + s .result .low) m (r .result .high * 2 ^ 64 + r .result .low) refl (d .ensures) (r .ensures .0) in (
       ((s .result .high * 2 ^ 64 + s .result .low), subst (λ (w : ℕ). Sticky (2 ^ a .far) w (s .result .high * 2 ^ 64 + s .result .low)) (p .ensures) (s .ensures), v),
       r .ensures .1,
       high-lt (r .result .high) (r .result .low) (r .result .high * 2 ^ 64 + r .result .low) 53 refl

@@ -1,7 +1,4 @@
 -- Assumes nothing.
-use Prim.Native.Nat.{_*_, _^_}
-use native.Mathlib.Nat.{mod-lt}
-use lib.Pow.{pow-pos}
 use borrow.Author.Needs.{needs}
 use Rattle.fused.proofs.Convert.{lifted-is}
 use Rattle.fused.proofs.near.lifted.Statement.{statement}
@@ -17,7 +14,7 @@ shl-t6 : tie.Need-shl-t6
 shl-t6 c = search needs
 
 returns : tie.Need-returns
-returns c = (lifted-is (c .args .m) (c .args .n) (c .pre), mod-lt (c .args .m * 2 ^ c .args .n) (pow-pos 64))
+returns c = lifted-is (c .args .m) (c .args .n) (c .pre)
 
 pub lifted-spec : {M : Type 1} → statement M
 lifted-spec = tie.close (tie.spec sub-t4 shr-t5 shl-t6 returns)
