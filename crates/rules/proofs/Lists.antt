@@ -14,7 +14,7 @@ use lib.Ieee.Fits.{and-i, and-l, and-r}
 use Rattle.rules.specs.Lists.{joined, listed, every}
 
 -- a number below n + 1 is below n, or is n
-below-suc : {i n : ℕ} → i < suc n → (i ≡ n) ⊎ (i < n)
+pub below-suc : {i n : ℕ} → i < suc n → (i ≡ n) ⊎ (i < n)
 below-suc h = eq-or-lt-of-le (le-of-suc-le-suc h)
 
 module _ {A : Type 0} where
