@@ -7,7 +7,7 @@ use native.Mathlib.Nat.{le-refl}
 use native.Mathlib.Omega.{arith}
 use lib.Dec.{T, ltb, ltb→lt}
 use lib.IntN.{ℤ, pos, negsuc, sucℤ, predℤ, natAbs, negℤ, subℕ, _+ℤ_, _-ℤ_, _*ℤ_, sucℤ-+ℤ, predℤ-+ℤ, sucℤ-*ℤ, predℤ-*ℤ}
-use lib.IntN.{+ℤ-idl, +ℤ-assoc, +ℤ-comm, zero-*ℤ, *ℤ-comm, negℤ-negℤ}
+use lib.IntN.{+ℤ-idl, +ℤ-assoc, +ℤ-comm, zero-*ℤ, one, *ℤ-one, *ℤ-comm, negℤ-negℤ}
 
 -- ---- sums
 
@@ -47,6 +47,10 @@ pub +ℤ-*ℤ : (a b c : ℤ) → (a +ℤ b) *ℤ c ≡ a *ℤ c +ℤ b *ℤ c
 
 pub *ℤ-+ℤ : (a b c : ℤ) → a *ℤ (b +ℤ c) ≡ a *ℤ b +ℤ a *ℤ c
 *ℤ-+ℤ a b c = *ℤ-comm a (b +ℤ c) ∙ +ℤ-*ℤ b c a ∙ ap₂ _+ℤ_ (*ℤ-comm b a) (*ℤ-comm c a)
+
+pub one-*ℤ : (a : ℤ) → pos 1 *ℤ a ≡ a
+unfolding one
+one-*ℤ a = *ℤ-comm (pos 1) a ∙ *ℤ-one a
 
 pub negℤ-*ℤ : (a b : ℤ) → negℤ a *ℤ b ≡ negℤ (a *ℤ b)
 negℤ-*ℤ (pos zero) b = zero-*ℤ b ∙ ap negℤ (sym (zero-*ℤ b))

@@ -4,7 +4,7 @@ use mathlib.Core.Path.{_≡_, refl, sym, ap, ap₂, _∙_, subst}
 use mathlib.Core.Logic.{inl, inr}
 use mathlib.Core.Bool.{Bool, true, false, not}
 use Prim.Native.Nat.{ℕ, zero, suc, _+_, _-_, _*_, _/_, _%_, _^_, _≤_, _<_}
-use native.Mathlib.Nat.{mul-one, le-antisymm, zero-lt-suc, add-zero, mul-div-cancel, mul-mod-left, div-add-mod'}
+use native.Mathlib.Nat.{mul-one, le-antisymm, zero-lt-suc, add-zero, mul-div-cancel, mul-mod-left, div-add-mod', le-trans, add-le-add, mul-le-mul}
 use native.Mathlib.Omega.{arith}
 use lib.Dec.{T, eqb, eqb→eq}
 use lib.IntN.{ℤ, pos, negsuc, natAbs, negℤ, negℤ-negℤ, _+ℤ_, _-ℤ_, _*ℤ_, +ℤ-comm, +ℤ-invr}
@@ -13,6 +13,7 @@ use lib.Ieee.Fits.{down-pos, eq→eqb}
 use lib.Ieee.Exact.{HasValue}
 use lib.Ieee.Back.{round-whole}
 use Rattle.integers.specs.Signs.{signed}
+use Rattle.integers.proofs.Laws.{natAbs-negℤ, natAbs-+ℤ, natAbs-*ℤ}
 use Rattle.integers.proofs.Signs.{natAbs-signed, signed-not, signed-add, signed-sub, signed-mul}
 use Rattle.rounding.specs.Whole.{isWhole, wholeOf}
 use Rattle.rounding.proofs.Numbers.{less-or-not}
@@ -117,3 +118,26 @@ module _ (f : Format) where
   unfolding ofInt
   ofInt-whole (pos n) h = rounded false n _ _ refl refl h
   ofInt-whole (negsuc n) h = rounded true (suc n) _ _ refl refl h
+
+-- ---- the same with bounds, which bound the result
+
+-- x is the whole number z, which is no larger than n
+pub record Within (n : ℕ) (x : Float) (z : ℤ) : Type 0 where
+  pub whole : HasWhole x z
+  pub bound : natAbs z ≤ n
+
+module _ (f : Format) {a b : ℕ} {x y : Float} {p q : ℤ} where
+  pub within-add : a + b ≤ 2 ^ prec f → Within a x p → Within b y q → Within (a + b) (add f x y) (p +ℤ q)
+  within-add h u v =
+      let most : natAbs (p +ℤ q) ≤ a + b = le-trans (natAbs-+ℤ p q) (add-le-add (u .bound) (v .bound)) in
+      record { whole = add-whole f (u .whole) (v .whole) (le-trans most h); bound = most }
+
+  pub within-sub : a + b ≤ 2 ^ prec f → Within a x p → Within b y q → Within (a + b) (sub f x y) (p -ℤ q)
+  within-sub h u v =
+      let most : natAbs (p -ℤ q) ≤ a + b = le-trans (natAbs-+ℤ p (negℤ q)) (add-le-add (u .bound) (rw natAbs-negℤ (v .bound))) in
+      record { whole = sub-whole f (u .whole) (v .whole) (le-trans most h); bound = most }
+
+  pub within-mul : a * b ≤ 2 ^ prec f → Within a x p → Within b y q → Within (a * b) (mul f x y) (p *ℤ q)
+  within-mul h u v =
+      let most : natAbs (p *ℤ q) ≤ a * b = rw natAbs-*ℤ (mul-le-mul (u .bound) (v .bound)) in
+      record { whole = mul-whole f (u .whole) (v .whole) (le-trans most h); bound = most }

@@ -11,13 +11,9 @@ use Rattle.rules.specs.Floats.{_!_}
 use Rattle.rules.specs.Lists.{listed}
 use Rattle.rules.specs.Tables.{mOf}
 use Rattle.rules.specs.Build.{BuildInput, invDs, acceptedRecord, divided, boundaryNumber, axisCoefficients, axisWaypoints, axisState}
+use Rattle.rules.proofs.Places.{listed-same}
 use Rattle.theorems.specs.Axes.{marked, givenNumber, axisPart, Alike, AxesAreIndependent}
 use Rattle.theorems.proofs.Parts.{coefficientsOf, part-is}
-
-listed-same : {A : Type 0} (n : ℕ) (f g : ℕ → A) → ((i : ℕ) → i < n → f i ≡ g i) → listed n f ≡ listed n g
-unfolding listed
-listed-same zero f g e = refl
-listed-same (suc n) f g e = rw (listed-same n f g (λ i l. e i (omega arith)), e n (omega arith))
 
 -- a number of a state as the build uses it, by the state's mark and the number as given
 abbrev pub used : Float → Bool → Float → ℕ → Float
