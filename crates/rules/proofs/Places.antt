@@ -39,3 +39,6 @@ module _ {A : Type 0} where
   unfolding all
   all-of f [] d h = tt
   all-of f (x ∷ xs) d h = and-i (f x) (all f xs) (h 0 (omega arith)) (all-of f xs d (λ i l. h (suc i) (omega arith)))
+
+  pub all-listed : (f : A → Bool) (n : ℕ) (g : ℕ → A) → ((i : ℕ) → T (f (g i))) → T (all f (listed n g))
+  all-listed f n g h = all-of f (listed n g) (g 0) (λ i l. rw (listed-at n g (g 0) i (rw length-listed at l)) (h i))

@@ -35,7 +35,7 @@ within-test x t = record { whole = has-whole x (and-l (isWhole x) _ t); bound = 
 none : HasWhole +0 (pos 0)
 none = record { sign = false; size = 0; value = (refl, refl); number = refl }
 
-zero-within : T (wholeWithin +0)
+pub zero-within : T (wholeWithin +0)
 unfolding wholeWithin within isWhole wholeOf
 zero-within = tt
 

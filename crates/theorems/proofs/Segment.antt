@@ -19,6 +19,13 @@ use Rattle.theorems.proofs.Tables.{upperForm, coefficientForm, endForm,
 abbrev pub numbers : ℤ → ℤ → List ℤ → List ℤ → ℕ → ℤ
 numbers y d left right = at (y ∷ d ∷ (left ++ right))
 
+-- a table's first segment starts at y with the numbers left, and ends at z with the numbers right
+pub record Meets (m : ℕ) (table : List ℤ) (y z : ℤ) (left right : List ℤ) : Type 0 where
+  pub starts : coefficient m table 0 0 ≡ y
+  pub starts-with : (r : ℕ) → r < m → coefficient m table 0 (suc r) ≡ at left r
+  pub ends : atEnd m table 0 0 ≡ z
+  pub ends-with : (r : ℕ) → r < m → atEnd m table 0 (suc r) ≡ at right r
+
 module _ (m : ℕ) (y d : ℤ) (left right : List ℤ) (full : length left ≡ m) where
   pub number-left : (j : ℕ) → j < m → numbers y d left right (suc (suc j)) ≡ at left j
   number-left j l = List·getD-append left right (pos 0) j (rw full l)
@@ -33,18 +40,6 @@ module _ (m : ℕ) (y d : ℤ) (left right : List ℤ) (full : length left ≡ m
   size = 2 * m + 2
 
   module _ (table : List ℤ) (facts : TableFacts m) (is : (k : ℕ) → k < size → coefficient m table 0 k ≡ form size (coefficientForm m k) x) where
-    pub starts : coefficient m table 0 0 ≡ y
-    unfolding coefficientForm
-    starts = is 0 (omega arith) ∙ form-unit size x 0 (omega arith)
-
-    pub starts-with : (r : ℕ) → r < m → coefficient m table 0 (suc r) ≡ at left r
-    unfolding coefficientForm
-    starts-with r l =
-        is (suc r) (omega arith)
-        ∙ ap (λ (t : Bool). form size (cond t (unit (suc (suc r))) (upperForm m (r - m))) x) (is-true (ltb r m) (lt→ltb r m l))
-        ∙ form-unit size x (suc (suc r)) (omega arith)
-        ∙ number-left r l
-
     end-form : (r : ℕ) → r < 1 + m → atEnd m table 0 r ≡ form size (endForm m r) x
     unfolding atEnd endsRight
     end-form r l =
@@ -52,10 +47,15 @@ module _ (m : ℕ) (y d : ℤ) (left right : List ℤ) (full : length left ≡ m
         ∙ form-sum size x size (λ k. pos (binomial k r)) (coefficientForm m)
         ∙ form-same size x _ _ (λ c h. same→eq _ _ (every-at size _ (every-at (1 + m) _ (facts .ends) r l) c h))
 
-    pub ends : atEnd m table 0 0 ≡ y +ℤ d
-    unfolding endForm
-    ends = end-form 0 (omega arith) ∙ form-add size x (unit 0) (unit 1) ∙ ap₂ _+ℤ_ (form-unit size x 0 (omega arith)) (form-unit size x 1 (omega arith))
-
-    pub ends-with : (r : ℕ) → r < m → atEnd m table 0 (suc r) ≡ at right r
-    unfolding endForm
-    ends-with r l = end-form (suc r) (omega arith) ∙ form-unit size x (suc (suc (m + r))) (omega arith) ∙ number-right r
+    pub meets : Meets m table y (y +ℤ d) left right
+    unfolding coefficientForm endForm
+    meets = record {
+      starts = is 0 (omega arith) ∙ form-unit size x 0 (omega arith);
+      starts-with = λ r l.
+          is (suc r) (omega arith)
+          ∙ ap (λ (t : Bool). form size (cond t (unit (suc (suc r))) (upperForm m (r - m))) x) (is-true (ltb r m) (lt→ltb r m l))
+          ∙ form-unit size x (suc (suc r)) (omega arith)
+          ∙ number-left r l;
+      ends = end-form 0 (omega arith) ∙ form-add size x (unit 0) (unit 1) ∙ ap₂ _+ℤ_ (form-unit size x 0 (omega arith)) (form-unit size x 1 (omega arith));
+      ends-with = λ r l. end-form (suc r) (omega arith) ∙ form-unit size x (suc (suc (m + r))) (omega arith) ∙ number-right r;
+    }

@@ -45,16 +45,17 @@ axisSet b axis = record {
   table = map wholeOf (axisPart b axis);
 }
 
--- what holds of an axis
-pub record ExactAxis (b : BuildInput) (axis : ℕ) : Type 0 where
-  -- every coefficient is a whole number, so that the set's table is the buffer's part exactly
-  pub whole : T (all isWhole (axisPart b axis))
-  -- "every axis meets the endpoint equations", as the check's test and with `≡`. (There are no joints.)
-  pub endpoints : T (endpointEquations (axisSet b axis))
-  pub equations : Equations (axisSet b axis)
+-- what holds of an axis's part of the buffer, and of its set
+pub record Exact (part : List Float) (s : MasterSet) : Type 0 where
+  -- every coefficient is a whole number, so that the set's table is the very numbers in the buffer
+  pub whole : T (all isWhole part)
+  -- "every axis meets the endpoint equations": as the check tests them, and among all its equations (of two points there are no joint equations)
+  pub endpoints : T (endpointEquations s)
+  pub equations : Equations s
   -- "The check says yes to each axis whose coefficients are within ±2^40 too; otherwise it gives 4."
-  pub check : checkMaster (axisSet b axis) ≡ masterSays (cond (all within (axisSet b axis .table)) Yes (Refused 4))
+  pub check : checkMaster s ≡ masterSays (cond (all within (s .table)) Yes (Refused 4))
 
 -- the theorem: a build, accepted into a buffer of so many cells
 unfoldable pub TwoPointsAreExact : Type 0
-TwoPointsAreExact = (b : BuildInput) (cells axis : ℕ) → buildNumber b cells ≡ 0 → WholeTwoPoints b → axis < b .axes → ExactAxis b axis
+TwoPointsAreExact =
+    (b : BuildInput) (cells axis : ℕ) → buildNumber b cells ≡ 0 → WholeTwoPoints b → axis < b .axes → Exact (axisPart b axis) (axisSet b axis)
