@@ -5,7 +5,7 @@ use Prim.Native.Nat.{ℕ, zero, suc, _+_, _-_, _*_, _≤_, _<_}
 use native.Mathlib.Nat.{mul-zero, zero-mul}
 use native.Mathlib.Omega.{arith}
 use lib.Dec.{T, ltb, ltb→lt}
-use lib.IntN.{ℤ, pos, negsuc, natAbs, negℤ, negℤ-negℤ, negℤ-+ℤ, _+ℤ_, _*ℤ_}
+use lib.IntN.{pos, negsuc, natAbs, negℤ, negℤ-negℤ, negℤ-+ℤ, _+ℤ_, _*ℤ_}
 use lib.Ieee.{unlike}
 use Rattle.integers.specs.Signs.{signed}
 use Rattle.integers.proofs.Laws.{natAbs-negℤ}

@@ -1,25 +1,24 @@
 -- Axes are independent. Assumes nothing.
-use mathlib.Core.Path.{_≡_, refl, sym, ap, ap₂, _∙_}
+use mathlib.Core.Path.{_≡_, refl, sym, ap, _∙_}
 use mathlib.Core.Bool.{Bool, cond}
-use mathlib.Core.List.{List, []}
-use Prim.Native.Nat.{ℕ, zero, suc, _+_, _*_, _-_, _<_}
-use native.Mathlib.Omega.{arith}
+use mathlib.Core.List.{List}
+use Prim.Native.Nat.{ℕ, _+_, _*_, _<_}
 use lib.Ieee.{Float}
 use Rattle.rules.specs.declared.BoundaryState.{BoundaryState}
 use Rattle.rules.specs.declared.BoundaryState.the-variants.{None, Given}
 use Rattle.rules.specs.Floats.{_!_}
 use Rattle.rules.specs.Lists.{listed}
 use Rattle.rules.specs.Tables.{mOf}
-use Rattle.rules.specs.Build.{BuildInput, invDs, acceptedRecord, divided, boundaryNumber, axisCoefficients, axisWaypoints, axisState}
+use Rattle.rules.specs.Build.{BuildInput, acceptedRecord, divided, boundaryNumber, axisWaypoints, axisState}
 use Rattle.rules.proofs.Places.{listed-same}
-use Rattle.theorems.specs.Axes.{marked, givenNumber, axisPart, Alike, AxesAreIndependent}
+use Rattle.theorems.specs.Axes.{marked, givenNumber, Alike, AxesAreIndependent}
 use Rattle.theorems.proofs.Parts.{coefficientsOf, part-is}
 
 -- a number of a state as the build uses it, by the state's mark and the number as given
-abbrev pub used : Float → Bool → Float → ℕ → Float
+abbrev used : Float → Bool → Float → ℕ → Float
 used inv mark x r = cond mark (divided (r + 1) x inv) x
 
-pub boundary-is : (axes : ℕ) (inv : Float) (state : BoundaryState) (numbers : List Float) (axis r : ℕ)
+boundary-is : (axes : ℕ) (inv : Float) (state : BoundaryState) (numbers : List Float) (axis r : ℕ)
     → boundaryNumber axes inv state numbers axis r ≡ used inv (marked state) (givenNumber axes state numbers axis r) r
 unfolding boundaryNumber marked givenNumber
 boundary-is axes inv None numbers axis r = refl
@@ -51,8 +50,8 @@ module _ (b b′ : BuildInput) (axis axis′ : ℕ) (a : Alike b b′ axis axis�
   same-coefficients =
       rw (
         same-waypoints,
-        same-state _ _ _ _ (a .startMark) (a .start),
-        same-state _ _ _ _ (a .endMark) (a .end),
+        same-state (b .config .«start_state») (b′ .config .«start_state») (b .start) (b′ .start) (a .startMark) (a .start),
+        same-state (b .config .«end_state») (b′ .config .«end_state») (b .end) (b′ .end) (a .endMark) (a .end),
         a .order,
         a .points,
       )

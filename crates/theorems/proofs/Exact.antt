@@ -2,15 +2,15 @@
 use mathlib.Core.Path.{_≡_, refl, sym, ap, ap₂, _∙_, subst, subst₂}
 use mathlib.Core.Bool.{Bool, true, false, cond, _&&_}
 use mathlib.Core.List.{List, [], _∷_, map}
-use Prim.Native.Nat.{ℕ, zero, suc, _+_, _-_, _*_, _<_, _≤_}
+use Prim.Native.Nat.{ℕ, zero, suc, _+_, _-_, _*_, _<_}
 use native.Mathlib.Nat.{one-mul, zero-mul, not-suc-le-zero}
 use native.Mathlib.Omega.{arith}
-use lib.Dec.{T, leb, eqb, eqb-refl}
-use lib.IntN.{ℤ, pos, _+ℤ_, _-ℤ_, +ℤ-comm, -ℤ-+ℤ-cancel}
+use lib.Dec.{T, eqb}
+use lib.IntN.{ℤ, _-ℤ_, +ℤ-comm, -ℤ-+ℤ-cancel}
 use lib.ListN.{length, length-map, List·getD-map}
 use lib.Ieee.{Float}
 use lib.Ieee.Bits.{is-true}
-use lib.Ieee.Fits.{and-i, and-l, and-r, eq→eqb}
+use lib.Ieee.Fits.{and-l, and-r, eq→eqb}
 use Rattle.rounding.specs.Whole.{isWhole, wholeOf}
 use Rattle.rounding.proofs.Whole.{HasWhole, whole-test, whole-number}
 use Rattle.rules.specs.declared.BoundaryState.{BoundaryState}
@@ -21,19 +21,18 @@ use Rattle.rules.specs.Lists.{all, every, listed, joined}
 use Rattle.rules.specs.Questions.{ask, firstNo}
 use Rattle.rules.specs.Tables.{mOf}
 use Rattle.rules.specs.Build.{BuildInput, buildNumber, boundaryNumber, validOrder, dy, segmentCoefficients, nodeNumbers, axisCoefficients, axisWaypoints, axisState}
-use Rattle.rules.specs.Master.{MasterSet, MasterSays, same, Equations, within, at, coefficient, atEnd, segments, masterQuestions, masterNumber}
+use Rattle.rules.specs.Master.{MasterSet, MasterSays, same, Equations, within, at, coefficient, masterQuestions, masterNumber}
 use Rattle.rules.specs.Master.{meetsLeft, meetsRight, meetsStart, meetsEnd, meetsJoints, endpointEquations, jointEquations, checkMaster, masterSays}
-use Rattle.rules.proofs.Lists.{every-of, length-listed}
+use Rattle.rules.proofs.Lists.{every-of}
 use Rattle.rules.proofs.Places.{all-at, all-of, all-listed}
 use Rattle.rules.proofs.Master.{eq→same}
 use Rattle.rules.proofs.Build.{length-segment, length-state, coefficient-count}
-use Rattle.theorems.specs.Axes.{marked, givenNumber, axisPart}
+use Rattle.theorems.specs.Axes.{marked, axisPart}
 use Rattle.theorems.specs.Exact.{wholeWithin, wholeState, WholeTwoPoints, axisSet, Exact, TwoPointsAreExact}
-use Rattle.theorems.proofs.Axes.{boundary-is}
 use Rattle.theorems.proofs.Parts.{coefficientsOf, order-valid, part-is}
 use Rattle.theorems.proofs.Sums.{form}
 use Rattle.theorems.proofs.Tables.{coefficientForm, TableFacts, table-facts}
-use Rattle.theorems.proofs.Segment.{numbers, Meets, meets}
+use Rattle.theorems.proofs.Segment.{numbers, meets}
 use Rattle.theorems.proofs.Floats.{zero-within, segment-whole}
 
 -- ---- the equations of one segment, as the check has them
@@ -200,8 +199,8 @@ module _ (b : BuildInput) (cells axis : ℕ) (accepted : buildNumber b cells ≡
       subst₂ Exact (sym part) (sym set-is)
       (exact-segment (b .config .order) (waypoint 0) (waypoint 1) start end (order-valid b cells accepted) (length-state b _ _ axis) (length-state b _ _ axis)
       waypoints-within
-      (state-within _ (b .start) (w .startUnmarked) (w .start))
-      (state-within _ (b .end) (w .endUnmarked) (w .end)))
+      (state-within (b .config .«start_state») (b .start) (w .startUnmarked) (w .start))
+      (state-within (b .config .«end_state») (b .end) (w .endUnmarked) (w .end)))
 
 pub two-points-are-exact : TwoPointsAreExact
 unfolding TwoPointsAreExact

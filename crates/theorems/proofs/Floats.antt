@@ -7,17 +7,16 @@ use Prim.Native.Nat.{ℕ, zero, suc, _+_, _-_, _*_, _^_, _<_, _≤_}
 use native.Mathlib.Nat.{le-trans, one-mul, suc-mul}
 use native.Mathlib.Omega.{arith}
 use lib.Dec.{T, leb, ltb, leb→le, ltb→lt, nltb→le, lit≤}
-use lib.IntN.{ℤ, pos, natAbs, negℤ, _+ℤ_, _-ℤ_, _*ℤ_, +ℤ-idl, zero-*ℤ}
-use lib.ListN.{length, getD, length-map, List·getD-append, List·getD-map}
+use lib.IntN.{ℤ, pos, natAbs, _+ℤ_, _-ℤ_, _*ℤ_, +ℤ-idl, zero-*ℤ}
+use lib.ListN.{length, length-map, List·getD-append, List·getD-map}
 use lib.Seq.{getD-append-add}
 use lib.Ieee.{Float, binary64}
 use lib.Ieee.Fits.{and-l, and-r}
-use Rattle.integers.proofs.Laws.{natAbs-negℤ, natAbs-+ℤ, natAbs-*ℤ}
 use Rattle.rounding.specs.Whole.{isWhole, wholeOf}
 use Rattle.rounding.proofs.Whole.{HasWhole, has-whole, ofInt-whole, Within, within-add, within-sub, within-mul}
-use Rattle.rules.specs.Floats.{_⊕_, _⊖_, _⊗_, _!_, +0, ofInts, sumOf}
+use Rattle.rules.specs.Floats.{_⊖_, _⊗_, _!_, +0, ofInts, sumOf}
 use Rattle.rules.specs.Lists.{all, listed}
-use Rattle.rules.specs.Tables.{H, forOrder}
+use Rattle.rules.specs.Tables.{forOrder}
 use Rattle.rules.specs.Build.{upperCoefficient, segmentCoefficients}
 use Rattle.rules.specs.Master.{within, at, sumℤ}
 use Rattle.rules.proofs.Places.{listed-at, all-at}
@@ -30,7 +29,7 @@ use Rattle.theorems.proofs.Segment.{numbers, number-left, number-right}
 
 pub within-test : (x : Float) → T (wholeWithin x) → Within (2 ^ 40) x (wholeOf x)
 unfolding wholeWithin within
-within-test x t = record { whole = has-whole x (and-l (isWhole x) _ t); bound = leb→le _ _ (and-r (isWhole x) _ t) }
+within-test x t = record { whole = has-whole x (and-l (isWhole x) (within (wholeOf x)) t); bound = leb→le _ _ (and-r (isWhole x) (within (wholeOf x)) t) }
 
 none : HasWhole +0 (pos 0)
 none = record { sign = false; size = 0; value = (refl, refl); number = refl }

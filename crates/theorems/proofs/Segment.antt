@@ -1,15 +1,15 @@
 -- A segment of whole numbers whose coefficients are the forms of Tables.antt starts and ends as it should. Assumes nothing.
-use mathlib.Core.Path.{_≡_, refl, sym, ap, ap₂, _∙_}
+use mathlib.Core.Path.{_≡_, sym, ap, ap₂, _∙_}
 use mathlib.Core.Bool.{Bool, cond}
 use mathlib.Core.List.{List, _∷_, _++_}
 use Prim.Native.Nat.{ℕ, suc, _+_, _-_, _*_, _<_}
 use native.Mathlib.Omega.{arith}
-use lib.Dec.{T, ltb, lt→ltb}
+use lib.Dec.{ltb, lt→ltb}
 use lib.IntN.{ℤ, pos, _+ℤ_, _*ℤ_}
 use lib.ListN.{length, List·getD-append}
 use lib.Seq.{getD-append-add}
 use lib.Ieee.Bits.{is-true}
-use Rattle.rules.specs.Master.{at, coefficient, binomial, sumℤ, atEnd}
+use Rattle.rules.specs.Master.{at, coefficient, binomial, atEnd}
 use Rattle.rules.proofs.Lists.{every-at}
 use Rattle.rules.proofs.Master.{same→eq}
 use Rattle.theorems.proofs.Sums.{form, unit, sum-same, form-same, form-add, form-sum, form-unit}

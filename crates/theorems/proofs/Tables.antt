@@ -1,6 +1,6 @@
 -- The one fact about the tables of document 01 that the exactness of two-point builds rests on, found by computing: H makes a segment end as it should.
 -- A segment's 2m + 2 coefficients are linear forms of 2m + 2 numbers: the left waypoint, dy, the left node's m numbers and the right node's. Assumes nothing.
-use mathlib.Core.Path.{_≡_, subst, sym}
+use mathlib.Core.Path.{subst, sym}
 use mathlib.Core.Logic.{_⊎_, inl, inr}
 use mathlib.Core.Bool.{Bool, true, false, cond, _||_}
 use Prim.Native.Nat.{ℕ, zero, suc, _+_, _-_, _*_, _≤_}
