@@ -22,12 +22,12 @@ use Rattle.rules.specs.Master.{within, at, sumℤ}
 use Rattle.rules.proofs.Places.{listed-at, all-at}
 use Rattle.theorems.specs.Exact.{wholeWithin}
 use Rattle.theorems.proofs.Sums.{form, unit, form-unit, sum-same, sum-split}
-use Rattle.theorems.proofs.Tables.{upperForm, coefficientForm, TableFacts}
+use Rattle.theorems.proofs.Tables.{upperForm, coefficientForm, smallEntries, TableFacts}
 use Rattle.theorems.proofs.Segment.{numbers, number-left, number-right}
 
 -- ---- whole numbers within a bound
 
-pub within-test : (x : Float) → T (wholeWithin x) → Within (2 ^ 40) x (wholeOf x)
+within-test : (x : Float) → T (wholeWithin x) → Within (2 ^ 40) x (wholeOf x)
 unfolding wholeWithin within
 within-test x t = record { whole = has-whole x (and-l (isWhole x) (within (wholeOf x)) t); bound = leb→le _ _ (and-r (isWhole x) (within (wholeOf x)) t) }
 
@@ -109,17 +109,21 @@ module _ (m : ℕ) (facts : TableFacts m) (u v : Float) (left right : List Float
   fullℤ : length leftℤ ≡ m
   fullℤ = length-map left wholeOf ∙ full
 
+  entry-within : (l : ℕ) → Within 128 (ofInts (forOrder m .h) ! l) (at (forOrder m .h) l)
+  unfolding smallEntries
+  entry-within = within-entry 128 (lit≤ tt) (forOrder m .h) (facts .small)
+
   -- an entry of H times a number of a node
   product : (n : Float) (z : ℤ) (l : ℕ) → Within (2 ^ 40) n z → Within (128 * 2 ^ 40) (ofInts (forOrder m .h) ! l ⊗ n) (at (forOrder m .h) l *ℤ z)
-  product n z l w = within-mul binary64 {a = 128} {b = 2 ^ 40} (lit≤ tt) (within-entry 128 (lit≤ tt) (forOrder m .h) (facts .small) l) w
+  product n z l w = within-mul binary64 {a = 128} {b = 2 ^ 40} (lit≤ tt) (entry-within l) w
 
   upper-whole : (i : ℕ) → HasWhole (upperCoefficient m (v ⊖ u) left right i) (form (2 * m + 2) (upperForm m i) xs)
   unfolding upperCoefficient
   upper-whole i =
-      let few : m ≤ 3 = facts .few in
+      let few : m ≤ 3 = leb→le m 3 (facts .few) in
       let row : ℕ → ℕ = λ l. i * (1 + 2 * m) + l in
       let d = within-sub binary64 {a = 2 ^ 40} {b = 2 ^ 40} (lit≤ tt) (within-test v tv) (within-test u tu) in
-      let first = within-mul binary64 {a = 128} {b = 2 ^ 41} (lit≤ tt) (within-entry 128 (lit≤ tt) (forOrder m .h) (facts .small) (row 0)) d in
+      let first = within-mul binary64 {a = 128} {b = 2 ^ 41} (lit≤ tt) (entry-within (row 0)) d in
       let p = within-sum (128 * 2 ^ 40) m _ _ (omega arith) (λ j l. product _ _ (row (1 + j)) (within-at left tl j)) in
       let q = within-sum (128 * 2 ^ 40) m _ _ (omega arith) (λ j l. product _ _ (row (1 + m + j)) (within-at right tr j)) in
       subst (HasWhole _) (sym (upper-form m i (wholeOf u) dyℤ leftℤ (map wholeOf right) fullℤ))

@@ -31,11 +31,11 @@ module _ (b : BuildInput) (cells : ℕ) (accepted : buildNumber b cells ≡ 0) w
   unfolding buildQuestions
   order-valid = said-yes-to 0
 
-  pub two-points : 2 ≤ b .points
+  two-points : 2 ≤ b .points
   unfolding buildQuestions
   two-points = leb→le 2 (b .points) (said-yes-to 1)
 
-  pub axis-length : (axis : ℕ) → length (coefficientsOf b axis) ≡ (b .points - 1) * (b .config .order + 1)
+  axis-length : (axis : ℕ) → length (coefficientsOf b axis) ≡ (b .points - 1) * (b .config .order + 1)
   unfolding coefficientsOf
   axis-length axis =
       let h : 2 ≤ b .points = two-points in

@@ -1,10 +1,10 @@
--- The one fact about the tables of document 01 that the exactness of two-point builds rests on, found by computing: H makes a segment end as it should.
+-- What the exactness of two-point builds asks of the tables of document 01, found by computing: H makes a segment end as it should, and its numbers are small.
 -- A segment's 2m + 2 coefficients are linear forms of 2m + 2 numbers: the left waypoint, dy, the left node's m numbers and the right node's. Assumes nothing.
 use mathlib.Core.Path.{subst, sym}
 use mathlib.Core.Logic.{_⊎_, inl, inr}
 use mathlib.Core.Bool.{Bool, true, false, cond, _||_}
-use Prim.Native.Nat.{ℕ, zero, suc, _+_, _-_, _*_, _≤_}
-use lib.Dec.{T, leb, ltb, eqb, eqb→eq, lit≤}
+use Prim.Native.Nat.{ℕ, zero, suc, _+_, _-_, _*_}
+use lib.Dec.{T, leb, ltb, eqb, eqb→eq}
 use lib.IntN.{ℤ, pos, natAbs, _+ℤ_, _*ℤ_}
 use Rattle.rules.specs.Lists.{all, every}
 use Rattle.rules.specs.Tables.{mOf, m1, m2, m3, forOrder}
@@ -27,13 +27,18 @@ unfoldable pub endForm : ℕ → ℕ → ℕ → ℤ
 endForm m zero l = unit 0 l +ℤ unit 1 l
 endForm m (suc r) l = unit (suc (suc (m + r))) l
 
+-- H makes every segment end so
 unfoldable pub endsRight : ℕ → Bool
 endsRight m =
     every (1 + m) (λ r. every (2 * m + 2) (λ l. same (sumℤ (2 * m + 2) (λ k. pos (binomial k r) *ℤ coefficientForm m k l)) (endForm m r l)))
 
+-- no number of H is beyond 2^7
+unfoldable pub smallEntries : ℕ → Bool
+smallEntries m = all (λ z. leb (natAbs z) 128) (forOrder m .h)
+
 pub record TableFacts (m : ℕ) : Type 0 where
-  pub few : m ≤ 3
-  pub small : T (all (λ z. leb (natAbs z) 128) (forOrder m .h))
+  pub few : T (leb m 3)
+  pub small : T (smallEntries m)
   pub ends : T (endsRight m)
 
 either : (a b : Bool) → T (a || b) → T a ⊎ T b
@@ -55,9 +60,10 @@ by-order P three five seven order t = elim (either (eqb order 3 || eqb order 5) 
     at-order k p t = subst P (sym (eqb→eq order k t)) p
 
 pub table-facts : (order : ℕ) → T (validOrder order) → TableFacts (mOf order)
-unfolding m1 m2 m3 forOrder all every binomial sumℤ same unit upperForm coefficientForm endForm endsRight
-table-facts =
-    by-order (λ (order : ℕ). TableFacts (mOf order))
-    (record { few = lit≤ tt; small = tt; ends = tt })
-    (record { few = lit≤ tt; small = tt; ends = tt })
-    (record { few = lit≤ tt; small = tt; ends = tt })
+unfolding m1 m2 m3 forOrder all every binomial sumℤ same unit upperForm coefficientForm endForm endsRight smallEntries
+table-facts order valid =
+    record {
+      few = by-order (λ (order : ℕ). T (leb (mOf order) 3)) tt tt tt order valid;
+      small = by-order (λ (order : ℕ). T (smallEntries (mOf order))) tt tt tt order valid;
+      ends = by-order (λ (order : ℕ). T (endsRight (mOf order))) tt tt tt order valid;
+    }
