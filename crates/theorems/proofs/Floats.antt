@@ -27,9 +27,10 @@ use Rattle.theorems.proofs.Segment.{numbers, number-left, number-right}
 
 -- ---- whole numbers within a bound
 
+-- what the test of a number says
 within-test : (x : Float) → T (wholeWithin x) → Within (2 ^ 40) x (wholeOf x)
 unfolding wholeWithin within
-within-test x t = record { whole = has-whole x (and-l (isWhole x) (within (wholeOf x)) t); bound = leb→le _ _ (and-r (isWhole x) (within (wholeOf x)) t) }
+within-test x t = record { whole = has-whole x (and-l (isWhole x) _ t); bound = leb→le _ _ (and-r (isWhole x) _ t) }
 
 none : HasWhole +0 (pos 0)
 none = record { sign = false; size = 0; value = (refl, refl); number = refl }
