@@ -4,3 +4,4 @@ pub mod Pattern
 pub mod Sums
 pub mod Word
 pub mod Values
+pub mod Whole

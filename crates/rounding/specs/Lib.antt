@@ -1,2 +1,3 @@
 pub mod Sticky
 pub mod Weight
+pub mod Whole

@@ -1,4 +1,5 @@
 pub mod Lists
+pub mod Places
 pub mod Filling
 pub mod Questions
 pub mod Solve

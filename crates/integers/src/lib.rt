@@ -1,0 +1,1 @@
+// Laws of the whole numbers that the kit lacks. There is no code here.

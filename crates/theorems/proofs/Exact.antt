@@ -1,0 +1,207 @@
+-- Two-point builds of whole numbers are exact. Assumes nothing.
+use mathlib.Core.Path.{_≡_, refl, sym, ap, ap₂, _∙_, subst, subst₂}
+use mathlib.Core.Bool.{Bool, true, false, cond, _&&_}
+use mathlib.Core.List.{List, [], _∷_, map}
+use Prim.Native.Nat.{ℕ, zero, suc, _+_, _-_, _*_, _<_}
+use native.Mathlib.Nat.{one-mul, zero-mul, not-suc-le-zero}
+use native.Mathlib.Omega.{arith}
+use lib.Dec.{T, eqb}
+use lib.IntN.{ℤ, _-ℤ_, +ℤ-comm, -ℤ-+ℤ-cancel}
+use lib.ListN.{length, length-map, List·getD-map}
+use lib.Ieee.{Float}
+use lib.Ieee.Bits.{is-true}
+use lib.Ieee.Fits.{and-l, and-r, eq→eqb}
+use Rattle.rounding.specs.Whole.{isWhole, wholeOf}
+use Rattle.rounding.proofs.Whole.{HasWhole, whole-test, whole-number}
+use Rattle.rules.specs.declared.BoundaryState.{BoundaryState}
+use Rattle.rules.specs.declared.BoundaryState.the-variants.{None, Given}
+use Rattle.rules.specs.declared.MasterAnswer.the-variants.{Yes, Refused}
+use Rattle.rules.specs.Floats.{_⊖_, _!_, +0}
+use Rattle.rules.specs.Lists.{all, every, listed, joined}
+use Rattle.rules.specs.Questions.{ask, firstNo}
+use Rattle.rules.specs.Tables.{mOf}
+use Rattle.rules.specs.Build.{BuildInput, buildNumber, boundaryNumber, validOrder, dy, segmentCoefficients, nodeNumbers, axisCoefficients, axisWaypoints, axisState}
+use Rattle.rules.specs.Master.{MasterSet, MasterSays, same, Equations, within, at, coefficient, masterQuestions, masterNumber}
+use Rattle.rules.specs.Master.{meetsLeft, meetsRight, meetsStart, meetsEnd, meetsJoints, endpointEquations, jointEquations, checkMaster, masterSays}
+use Rattle.rules.proofs.Lists.{every-of}
+use Rattle.rules.proofs.Places.{all-at, all-of, all-listed}
+use Rattle.rules.proofs.Master.{eq→same}
+use Rattle.rules.proofs.Build.{length-segment, length-state, coefficient-count}
+use Rattle.theorems.specs.Axes.{marked, axisPart}
+use Rattle.theorems.specs.Exact.{wholeWithin, wholeState, WholeTwoPoints, axisSet, Exact, TwoPointsAreExact}
+use Rattle.theorems.proofs.Parts.{coefficientsOf, order-valid, part-is}
+use Rattle.theorems.proofs.Sums.{form}
+use Rattle.theorems.proofs.Tables.{coefficientForm, TableFacts, table-facts}
+use Rattle.theorems.proofs.Segment.{numbers, meets}
+use Rattle.theorems.proofs.Floats.{zero-within, segment-whole}
+
+-- ---- the equations of one segment, as the check has them
+
+only-zero : (P : ℕ → Type 0) → P 0 → (i : ℕ) → i < 1 → P i
+only-zero P p zero l = p
+only-zero P p (suc i) l = absurd (omega arith)
+
+-- tests that pass, as equations
+
+each-same : (n : ℕ) (f g : ℕ → ℤ) → ((i : ℕ) → i < n → f i ≡ g i) → every n (λ i. same (f i) (g i)) ≡ true
+each-same n f g e = is-true _ (every-of n _ (λ i l. eq→same (f i) (g i) (e i l)))
+
+equal : {a b : ℕ} → a ≡ b → eqb a b ≡ true
+equal e = is-true _ (eq→eqb e)
+
+all-within : (xs : List Float) → T (all wholeWithin xs) → all within (map wholeOf xs) ≡ true
+unfolding all wholeWithin
+all-within [] t = refl
+all-within (x ∷ xs) t =
+    ap₂ _&&_ (is-true (within (wholeOf x)) (and-r (isWhole x) _ (and-l (wholeWithin x) (all wholeWithin xs) t))) (all-within xs (and-r (wholeWithin x) (all wholeWithin xs) t))
+
+-- the check's last question, and its answer
+
+asked : (t : Bool) → firstNo (ask t 4 ∷ []) ≡ cond t 0 4
+unfolding firstNo
+asked true = refl
+asked false = refl
+
+says : (t : Bool) → _≡_ {A = MasterSays} (record { number = cond t 0 4; good = eqb (cond t 0 4) 0 && true && true }) (masterSays (cond t Yes (Refused 4)))
+unfolding masterSays
+says true = refl
+says false = refl
+
+-- What the rules compute from two waypoints u and v and the states left and right, and the set that it makes with them.
+module _ (order : ℕ) (u v : Float) (left right : List Float) where
+  abbrev m : ℕ
+  m = mOf order
+
+  abbrev segment : List Float
+  segment = segmentCoefficients m u (v ⊖ u) left right
+
+  abbrev set : MasterSet
+  set = record {
+    order = order;
+    waypoints = map wholeOf (u ∷ v ∷ []);
+    start = map wholeOf left;
+    end = map wholeOf right;
+    table = map wholeOf segment;
+  }
+
+  module _ (valid : T (validOrder order)) (full : length left ≡ m) (full′ : length right ≡ m)
+      (tw : T (all wholeWithin (u ∷ v ∷ []))) (tl : T (all wholeWithin left)) (tr : T (all wholeWithin right)) where
+    facts : TableFacts m
+    facts = table-facts order valid
+
+    coefficient-whole : (k : ℕ) → k < 2 * m + 2
+        → HasWhole (segment ! k) (form (2 * m + 2) (coefficientForm m k) (numbers (wholeOf u) (wholeOf v -ℤ wholeOf u) (set .start) (set .end)))
+    coefficient-whole =
+        let waypoint = all-at wholeWithin (u ∷ v ∷ []) +0 zero-within tw in
+        segment-whole m facts u v left right full (waypoint 0) (waypoint 1) tl tr
+
+    coefficient-is : (k : ℕ) → k < 2 * m + 2
+        → coefficient m (set .table) 0 k ≡ form (2 * m + 2) (coefficientForm m k) (numbers (wholeOf u) (wholeOf v -ℤ wholeOf u) (set .start) (set .end))
+    unfolding wholeOf
+    coefficient-is k l =
+        ap (at (set .table)) (first-segment (2 * m + 2))
+        ∙ List·getD-map wholeOf segment k +0
+        ∙ whole-number (segment ! k) (coefficient-whole k l)
+      where
+        first-segment : (n : ℕ) → 0 * n + k ≡ k
+        first-segment n = rw zero-mul (omega arith)
+
+    equations : Equations set
+    equations =
+        let y = wholeOf u in
+        let d = wholeOf v -ℤ y in
+        let q = meets m y d (set .start) (set .end) (length-map left wholeOf ∙ full) (set .table) facts coefficient-is in
+        record {
+          left = only-zero _ (q .starts);
+          right = only-zero _ (q .ends ∙ +ℤ-comm y d ∙ -ℤ-+ℤ-cancel (wholeOf v) y);
+          start = q .starts-with;
+          end = q .ends-with;
+          joint = λ i l. absurd (not-suc-le-zero l);
+        }
+
+    whole : T (all isWhole segment)
+    whole =
+        all-of isWhole segment +0 (λ k l.
+        whole-test (segment ! k) (coefficient-whole k (rw (length-segment m u (v ⊖ u) left right full) at l)))
+
+    endpoints : endpointEquations set ≡ true
+    unfolding endpointEquations meetsLeft meetsRight meetsStart meetsEnd
+    endpoints =
+        let q = equations in
+        ap₂ _&&_ (ap₂ _&&_ (ap₂ _&&_ (each-same 1 _ _ (q .left)) (each-same 1 _ _ (q .right))) (each-same m _ _ (q .start))) (each-same m _ _ (q .end))
+
+    number : masterNumber set ≡ cond (all within (set .table)) 0 4
+    unfolding masterNumber masterQuestions firstNo
+    number =
+        rw (
+          is-true (validOrder order) valid,
+          equal (length-map left wholeOf ∙ full),
+          equal (length-map right wholeOf ∙ full′),
+          equal (length-map segment wholeOf ∙ length-segment m u (v ⊖ u) left right full ∙ coefficient-count order valid ∙ sym (one-mul (order + 1))),
+          all-within (u ∷ v ∷ []) tw,
+          all-within left tl,
+          all-within right tr,
+        ) (asked (all within (set .table)))
+
+    check : checkMaster set ≡ masterSays (cond (all within (set .table)) Yes (Refused 4))
+    unfolding checkMaster jointEquations meetsJoints every
+    check = ap₂ (λ (n : ℕ) (t : Bool). record { number = n; good = eqb n 0 && t && true }) number endpoints ∙ says (all within (set .table))
+
+    exact-segment : Exact segment set
+    exact-segment = record { whole = whole; endpoints = subst T (sym endpoints) tt; equations = equations; check = check }
+
+-- ---- an axis of a build
+
+-- a number of an unmarked state of whole numbers
+number-within : (axes : ℕ) (inv : Float) (state : BoundaryState) (numbers : List Float) (axis r : ℕ) → marked state ≡ false → T (wholeState state numbers)
+    → T (wholeWithin (boundaryNumber axes inv state numbers axis r))
+unfolding wholeState marked boundaryNumber
+number-within axes inv None numbers axis r e t = zero-within
+number-within axes inv (Given rows columns perUnit) numbers axis r e t = rw e (all-at wholeWithin numbers +0 zero-within t (r * axes + axis))
+
+module _ (b : BuildInput) (cells axis : ℕ) (accepted : buildNumber b cells ≡ 0) (w : WholeTwoPoints b) (inside : axis < b .axes) where
+  abbrev start : List Float
+  start = axisState b (b .config .«start_state») (b .start) axis
+
+  abbrev end : List Float
+  end = axisState b (b .config .«end_state») (b .end) axis
+
+  abbrev waypoint : ℕ → Float
+  waypoint p = b .waypoints ! (p * b .axes + axis)
+
+  state-within : (state : BoundaryState) (numbers : List Float) → marked state ≡ false → T (wholeState state numbers) → T (all wholeWithin (axisState b state numbers axis))
+  unfolding axisState
+  state-within state numbers e t = all-listed wholeWithin _ _ (λ r. number-within (b .axes) _ state numbers axis r e t)
+
+  waypoints-are : axisWaypoints b axis ≡ waypoint 0 ∷ waypoint 1 ∷ []
+  unfolding axisWaypoints listed
+  waypoints-are = ap (λ (n : ℕ). listed n waypoint) (w .points)
+
+  waypoints-within : T (all wholeWithin (waypoint 0 ∷ waypoint 1 ∷ []))
+  unfolding listed
+  waypoints-within = all-listed wholeWithin 2 waypoint (λ p. all-at wholeWithin (b .waypoints) +0 zero-within (w .waypoints) (p * b .axes + axis))
+
+  -- the one segment
+  coefficients-are : coefficientsOf b axis ≡ segment (b .config .order) (waypoint 0) (waypoint 1) start end
+  unfolding coefficientsOf axisCoefficients joined nodeNumbers dy
+  coefficients-are =
+      ap₂ (λ (n : ℕ) (ws : List Float). axisCoefficients (mOf (b .config .order)) n ws start end) (ap (λ (p : ℕ). p - 2) (w .points)) waypoints-are
+
+  part : axisPart b axis ≡ segment (b .config .order) (waypoint 0) (waypoint 1) start end
+  part = part-is b cells accepted axis inside ∙ coefficients-are
+
+  set-is : axisSet b axis ≡ set (b .config .order) (waypoint 0) (waypoint 1) start end
+  unfolding axisSet
+  set-is = rw (waypoints-are, part)
+
+  exact-axis : Exact (axisPart b axis) (axisSet b axis)
+  exact-axis =
+      subst₂ Exact (sym part) (sym set-is)
+      (exact-segment (b .config .order) (waypoint 0) (waypoint 1) start end (order-valid b cells accepted) (length-state b _ _ axis) (length-state b _ _ axis)
+      waypoints-within
+      (state-within (b .config .«start_state») (b .start) (w .startUnmarked) (w .start))
+      (state-within (b .config .«end_state») (b .end) (w .endUnmarked) (w .end)))
+
+pub two-points-are-exact : TwoPointsAreExact
+unfolding TwoPointsAreExact
+two-points-are-exact = exact-axis
