@@ -104,19 +104,6 @@ addend-not-finite f (fin s m e) (fin t n d) nan h k l = refl
 addend-not-finite f (fin s m e) (fin t n d) (inf u) h k l = refl
 addend-not-finite f (fin s m e) (fin t n d) (fin u r i) h k l = absurd (differ l)
 
--- ---- the test for a finite value
-
-pub finite-test : (x : Float) → eq (sub binary64 x x) (ofBits binary64 0) ≡ finite x
-unfolding sub neg add eq ofBits
-finite-test nan = refl
-finite-test (inf true) = refl
-finite-test (inf false) = refl
-finite-test (fin s m e) =
-    ap (λ (z : Float). eq z (ofBits binary64 0))
-    (add-values binary64 (fin s m e) (fin (not s) m e) s (m * up e) (not s) (m * up e) (down e) (down-pos e) (refl, refl) (refl, refl)
-    ∙ sum-none binary64 s (m * up e) (down e)
-    ∙ round-zero binary64 false (down e))
-
 pub finite-no-nan : (x : Float) → finite x ≡ true → T (not (isNan x))
 unfolding isNan
 finite-no-nan nan h = absurd (differ (sym h))
