@@ -1,18 +1,18 @@
 -- The definition of the fused multiply-add by its operands' values, and the operands for which no sum of whole numbers is worked out. Assumes nothing.
 use mathlib.Core.Path.{_≡_, refl, sym, ap, ap₂, _∙_, subst}
 use mathlib.Core.Logic.{_⊎_, inl, inr}
-use Prim.Native.Nat.{ℕ, _+_, _-_, _*_, _<_}
+use Prim.Native.Nat.{ℕ, _*_, _<_}
 use native.Mathlib.Nat.{mul-pos, mul-assoc, mul-comm, mul-left-comm, mul-right-comm, zero-mul, add-zero, sub-zero, eq-of-mul-eq-mul-right}
 use mathlib.Core.Bool.{Bool, true, false, not, _&&_, _||_, Bool·beq}
 use lib.IntN.{pos, _+ℤ_}
 use lib.Dec.{T, eqb, eqb-refl}
-use lib.Ieee.{Float, nan, inf, fin, Format, binary64, unlike, up, down, round, neg, sum, add, sub, mul, eq, isNan, ofBits}
+use lib.Ieee.{Float, nan, inf, fin, Format, unlike, up, down, round, sum, add, mul, eq, isNan}
 use lib.Ieee.Bits.{is-true}
 use lib.Ieee.Fits.{and-i, down-pos}
 use lib.Ieee.Exact.{HasValue}
 use lib.Ieee.Scale.{finite}
 use Rattle.rules.specs.Fused.{exactProduct, fused}
-use Rattle.rounding.proofs.Sums.{by-signs, sum-like, sum-more, sum-none}
+use Rattle.rounding.proofs.Sums.{by-signs, sum-like, sum-more}
 use Rattle.rounding.proofs.Values.{power-add, cross-product, value-scaled, add-values, mul-values, round-zero}
 
 -- ---- finite operands

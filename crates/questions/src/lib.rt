@@ -132,45 +132,45 @@ pub fn build_questions(
     let s_min = config.s_min;
     let s_max = config.s_max;
     if !valid_order(order) {
-        return 302;
+        return 302; // question 1
     }
     if points < 2 {
-        return 304;
+        return 304; // question 2
     }
     if 257 < points {
-        return 2;
+        return 2; // question 3
     }
     if axes < 1 {
-        return 300;
+        return 300; // question 4, too few
     }
     if 8 < axes {
-        return 300;
+        return 300; // question 4, too many
     }
     if waypoints.len() != axes * points {
-        return 3;
+        return 3; // question 5
     }
     let m = (order - 1) / 2;
     if !valid_state(axes, m, start_state, start) {
-        return 303;
+        return 303; // question 6, of the start
     }
     if !valid_state(axes, m, end_state, end) {
-        return 303;
+        return 303; // question 6, of the end
     }
     let segments = points - 1;
     if cells != axes * segments * (order + 1) {
-        return 2;
+        return 2; // question 7
     }
     if !valid_range(segments, s_min, s_max) {
-        return 301;
+        return 301; // question 8
     }
     if !all_finite(waypoints) {
-        return 4;
+        return 4; // question 9, of the waypoints
     }
     if !finite_state(start_state, start) {
-        return 4;
+        return 4; // question 9, of the start
     }
     if !finite_state(end_state, end) {
-        return 4;
+        return 4; // question 9, of the end
     }
     0
 }

@@ -1,5 +1,5 @@
 -- The kit's operations by their operands' values: which number a bit pattern is, and that a product and a sum of values are the product and the
--- sum of any fractions that the values equal. Assumes nothing.
+-- sum of any fractions that the values equal. So x − x is 0 exactly where x is finite: `finite-test`. Assumes nothing.
 use mathlib.Core.Path.{_≡_, refl, sym, ap, ap₂, _∙_, subst}
 use Prim.Native.Nat.{ℕ, zero, suc, _+_, _-_, _*_, _/_, _%_, _^_, _≤_, _<_, compare, compare·zero-zero, compare·zero-suc}
 use native.Mathlib.Nat.{zero-mul, mul-one, one-mul, mul-comm, mul-assoc, mul-right-comm, mul-pos, zero-div, zero-mod, mod-lt, div-lt-iff-lt-mul, zero-lt-suc, le-of-suc-le-suc, mul-mul-mul-comm}

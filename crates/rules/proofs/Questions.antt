@@ -1,4 +1,5 @@
--- The answer 0 means a yes to every question: `said-yes`, at the place of a question in its list. Assumes nothing.
+-- The answer 0 means a yes to every question: `said-yes`, at the place of a question in its list. What the first question's answer gives:
+-- `yes-to`, `no-to`. Assumes nothing.
 use mathlib.Core.Path.{_≡_, sym, subst}
 use mathlib.Core.Bool.{Bool, true, false, not, _&&_}
 use mathlib.Core.List.{List, [], _∷_}
