@@ -1,18 +1,18 @@
 -- The definition of the fused multiply-add by its operands' values, and the operands for which no sum of whole numbers is worked out. Assumes nothing.
 use mathlib.Core.Path.{_≡_, refl, sym, ap, ap₂, _∙_, subst}
 use mathlib.Core.Logic.{_⊎_, inl, inr}
-use Prim.Native.Nat.{ℕ, _+_, _-_, _*_, _<_}
+use Prim.Native.Nat.{ℕ, _*_, _<_}
 use native.Mathlib.Nat.{mul-pos, mul-assoc, mul-comm, mul-left-comm, mul-right-comm, zero-mul, add-zero, sub-zero, eq-of-mul-eq-mul-right}
 use mathlib.Core.Bool.{Bool, true, false, not, _&&_, _||_, Bool·beq}
 use lib.IntN.{pos, _+ℤ_}
 use lib.Dec.{T, eqb, eqb-refl}
-use lib.Ieee.{Float, nan, inf, fin, Format, binary64, unlike, up, down, round, neg, sum, add, sub, mul, eq, isNan, ofBits}
+use lib.Ieee.{Float, nan, inf, fin, Format, unlike, up, down, round, sum, add, mul, eq, isNan}
 use lib.Ieee.Bits.{is-true}
 use lib.Ieee.Fits.{and-i, down-pos}
 use lib.Ieee.Exact.{HasValue}
 use lib.Ieee.Scale.{finite}
 use Rattle.rules.specs.Fused.{exactProduct, fused}
-use Rattle.rounding.proofs.Sums.{by-signs, sum-like, sum-more, sum-none}
+use Rattle.rounding.proofs.Sums.{by-signs, sum-like, sum-more}
 use Rattle.rounding.proofs.Values.{power-add, cross-product, value-scaled, add-values, mul-values, round-zero}
 
 -- ---- finite operands
@@ -103,19 +103,6 @@ addend-not-finite f (fin s m e) (inf t) z h k l = absurd (differ (sym k))
 addend-not-finite f (fin s m e) (fin t n d) nan h k l = refl
 addend-not-finite f (fin s m e) (fin t n d) (inf u) h k l = refl
 addend-not-finite f (fin s m e) (fin t n d) (fin u r i) h k l = absurd (differ l)
-
--- ---- the test for a finite value
-
-pub finite-test : (x : Float) → eq (sub binary64 x x) (ofBits binary64 0) ≡ finite x
-unfolding sub neg add eq ofBits
-finite-test nan = refl
-finite-test (inf true) = refl
-finite-test (inf false) = refl
-finite-test (fin s m e) =
-    ap (λ (z : Float). eq z (ofBits binary64 0))
-    (add-values binary64 (fin s m e) (fin (not s) m e) s (m * up e) (not s) (m * up e) (down e) (down-pos e) (refl, refl) (refl, refl)
-    ∙ sum-none binary64 s (m * up e) (down e)
-    ∙ round-zero binary64 false (down e))
 
 pub finite-no-nan : (x : Float) → finite x ≡ true → T (not (isNan x))
 unfolding isNan

@@ -1,5 +1,5 @@
 -- The kit's operations by their operands' values: which number a bit pattern is, and that a product and a sum of values are the product and the
--- sum of any fractions that the values equal. Assumes nothing.
+-- sum of any fractions that the values equal. So x − x is 0 exactly where x is finite: `finite-test`. Assumes nothing.
 use mathlib.Core.Path.{_≡_, refl, sym, ap, ap₂, _∙_, subst}
 use Prim.Native.Nat.{ℕ, zero, suc, _+_, _-_, _*_, _/_, _%_, _^_, _≤_, _<_, compare, compare·zero-zero, compare·zero-suc}
 use native.Mathlib.Nat.{zero-mul, mul-one, one-mul, mul-comm, mul-assoc, mul-right-comm, mul-pos, zero-div, zero-mod, mod-lt, div-lt-iff-lt-mul, zero-lt-suc, le-of-suc-le-suc, mul-mul-mul-comm}
@@ -9,14 +9,14 @@ use lib.IntN.{ℤ, pos, negsuc, _+ℤ_, subℕ}
 use lib.Dec.{T, leb, ltb, eqb, ltb→lt, nltb→le, not-T, eqb→eq}
 use lib.Arith.{lt-of-le-ne}
 use lib.Pow.{pow-add, pow-pos}
-use lib.Ieee.{Float, nan, inf, fin, Format, binary32, binary64, prec, emax, low, unlike, up, down, size, nearest, odd, units, round, sum, add, mul, hid, ones, top, ofFields, ofBits}
+use lib.Ieee.{Float, nan, inf, fin, Format, binary32, binary64, prec, emax, low, unlike, up, down, size, nearest, odd, units, round, neg, sum, add, sub, mul, eq, hid, ones, top, ofFields, ofBits}
 use lib.Ieee.Digits.{size-le}
 use lib.Ieee.Fits.{round-is, down-pos, eq→eqb}
 use lib.Ieee.Bits.{cond-no}
 use lib.Ieee.Exact.{HasValue, odd-sign, round-exact}
 use lib.Ieee.Scale.{round-same, finite}
 use Rattle.rounding.specs.Weight.{weight}
-use Rattle.rounding.proofs.Sums.{sum-same}
+use Rattle.rounding.proofs.Sums.{sum-same, sum-none}
 
 -- ---- zero, rounded
 
@@ -159,3 +159,16 @@ power-times f u p t s h k l o v w =
     subst (λ (x : Float). HasValue x (unlike t s) (h * 2 ^ k) (2 ^ low f))
     (sym (mul-values f u p t h 1 s (2 ^ k) (2 ^ low f) (zero-lt-suc 0) (pow-pos (low f)) v w ∙ ap (round f (unlike t s) (h * 2 ^ k)) (one-mul (2 ^ low f))))
     (round-exact f (unlike t s) (h * 2 ^ k) (2 ^ low f) h k (pow-pos (low f)) l o refl)
+
+-- ---- the test for a finite value
+
+pub finite-test : (x : Float) → eq (sub binary64 x x) (ofBits binary64 0) ≡ finite x
+unfolding sub neg add eq ofBits
+finite-test nan = refl
+finite-test (inf true) = refl
+finite-test (inf false) = refl
+finite-test (fin s m e) =
+    ap (λ (z : Float). eq z (ofBits binary64 0))
+    (add-values binary64 (fin s m e) (fin (not s) m e) s (m * up e) (not s) (m * up e) (down e) (down-pos e) (refl, refl) (refl, refl)
+    ∙ sum-none binary64 s (m * up e) (down e)
+    ∙ round-zero binary64 false (down e))

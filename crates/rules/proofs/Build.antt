@@ -58,21 +58,25 @@ either : (a b : Bool) → T (a || b) → T a ⊎ T b
 either true b t = inl tt
 either false b t = inr t
 
+-- what holds of 3, 5 and 7 holds of a valid order
+pub by-order : (P : ℕ → Type 0) → P 3 → P 5 → P 7 → (order : ℕ) → T (validOrder order) → P order
+unfolding validOrder
+by-order P x y z order t = go (either (eqb order 3 || eqb order 5) (eqb order 7) t)
+  where
+    at : (k : ℕ) → P k → T (eqb order k) → P order
+    at k h t = rw (eqb→eq order k t) h
+
+    small : T (eqb order 3) ⊎ T (eqb order 5) → P order
+    small (inl t) = at 3 x t
+    small (inr t) = at 5 y t
+
+    go : T (eqb order 3 || eqb order 5) ⊎ T (eqb order 7) → P order
+    go (inl t) = small (either (eqb order 3) (eqb order 5) t)
+    go (inr t) = at 7 z t
+
 -- a segment's 2m + 2 coefficients are order + 1
 pub coefficient-count : (order : ℕ) → T (validOrder order) → 2 * mOf order + 2 ≡ order + 1
-unfolding validOrder
-coefficient-count order t = go (either (eqb order 3 || eqb order 5) (eqb order 7) t)
-  where
-    at : (k : ℕ) → 2 * mOf k + 2 ≡ k + 1 → T (eqb order k) → 2 * mOf order + 2 ≡ order + 1
-    at k e t = rw (eqb→eq order k t) e
-
-    small : T (eqb order 3) ⊎ T (eqb order 5) → 2 * mOf order + 2 ≡ order + 1
-    small (inl t) = at 3 refl t
-    small (inr t) = at 5 refl t
-
-    go : T (eqb order 3 || eqb order 5) ⊎ T (eqb order 7) → 2 * mOf order + 2 ≡ order + 1
-    go (inl t) = small (either (eqb order 3) (eqb order 5) t)
-    go (inr t) = at 7 refl t
+coefficient-count = by-order (λ order. 2 * mOf order + 2 ≡ order + 1) refl refl refl
 
 pub length-table : (b : BuildInput) → T (validOrder (b .config .order)) → 2 ≤ b .points
     → length (table b) ≡ tableLength (b .axes) (b .points - 1) (b .config .order)

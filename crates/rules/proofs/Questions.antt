@@ -1,4 +1,5 @@
--- The answer 0 means a yes to every question: `said-yes`, at the place of a question in its list. Assumes nothing.
+-- The answer 0 means a yes to every question: `said-yes`, at the place of a question in its list. What the first question's answer gives:
+-- `yes-to`, `no-to`. Assumes nothing.
 use mathlib.Core.Path.{_≡_, sym, subst}
 use mathlib.Core.Bool.{Bool, true, false, not, _&&_}
 use mathlib.Core.List.{List, [], _∷_}
@@ -28,3 +29,12 @@ said-yes (ask true n ∷ rest) h e zero = tt
 said-yes (ask true n ∷ rest) h e (suc k) = said-yes rest (and-r (not (eqb n 0)) (numbered rest) h) e k
 said-yes (ask false n ∷ rest) h e zero = never n (numbered rest) h e
 said-yes (ask false n ∷ rest) h e (suc k) = absurd (never n (numbered rest) h e)
+
+-- a question asked first: a yes goes on to the rest, and a no gives its number
+pub yes-to : {b : Bool} (n : ℕ) (rest : List Question) → b ≡ true → firstNo (ask b n ∷ rest) ≡ firstNo rest
+unfolding firstNo
+yes-to n rest e = rw e
+
+pub no-to : {b : Bool} {n : ℕ} (rest : List Question) → b ≡ false → firstNo (ask b n ∷ rest) ≡ n
+unfolding firstNo
+no-to rest e = rw e

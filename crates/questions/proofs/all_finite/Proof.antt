@@ -1,0 +1,81 @@
+-- The loop's invariant: all the numbers are finite exactly where those from i on are. Assumes nothing.
+use mathlib.Core.Path.{_≡_, refl, _∙_, sym}
+use mathlib.Core.Bool.{Bool, true, _&&_}
+use mathlib.Core.List.{List}
+use Prim.Native.Nat.{ℕ, _+_, _-_, _≤_, _<_}
+use native.Mathlib.Numerals.{add-one}
+use native.Mathlib.Nat.{le-antisymm}
+use native.Mathlib.Omega.{arith}
+use lib.ListN.{length, drop, getD}
+use lib.Seq.{drop-cons, drop-length}
+use lib.Ieee.{Float}
+use borrow.Author.Needs.{needs}
+use Rattle.rules.specs.Floats.{finite}
+use Rattle.rules.specs.Lists.{all}
+use Rattle.questions.proofs.Tests.{no, yes}
+use Rattle.questions.proofs.all_finite.Statement.{statement}
+use Rattle.questions.proofs.all_finite.Tie as tie
+
+-- the numbers from i on: none, or the one at i and those after it
+none-left : (xs : List Float) (i : ℕ) → i ≤ length xs → length xs ≤ i → all finite (drop i xs) ≡ true
+unfolding all
+none-left xs i h l = rw (le-antisymm h l, drop-length)
+
+one-more : (xs : List Float) (i : ℕ) (d : Float) → i < length xs → {b : Bool} → finite (getD xs i d) ≡ b → all finite (drop i xs) ≡ (b && all finite (drop (i + 1) xs))
+unfolding all
+one-more xs i d h e = rw (add-one, drop-cons xs i d, e)
+
+abbrev Inv-loop : tie.InvT-loop
+Inv-loop numbers i₀ i = (i ≤ length numbers) × (all finite numbers ≡ all finite (drop i numbers))
+
+abbrev μ-loop : tie.MeasureT-loop
+μ-loop numbers i₀ i = length numbers - i
+
+loop-holds : tie.Need-loop-holds Inv-loop μ-loop
+loop-holds c = (omega arith, refl)
+
+mul-is-finite : tie.Need-mul-is-finite Inv-loop μ-loop
+mul-is-finite c = search needs
+
+shared-slice-read-is-finite : tie.Need-shared-slice-read-is-finite Inv-loop μ-loop
+shared-slice-read-is-finite c = search needs
+
+is-finite-requires : tie.Need-is-finite-requires Inv-loop μ-loop
+is-finite-requires c κs = search needs
+
+returns : tie.Need-returns Inv-loop μ-loop
+returns c =
+    let w = c .before .before .before in
+    sym (w .before .loop .inv .1 ∙ one-more _ _ _ (w .loop-test .taken) (no (c .before .is-finite .ensures) (c .if1 .taken)))
+
+add-i : tie.Need-add-i Inv-loop μ-loop
+add-i c = omega arith
+
+loop-less : tie.Need-loop-less Inv-loop μ-loop
+loop-less c = omega arith
+
+loop-again : tie.Need-loop-again Inv-loop μ-loop
+loop-again c =
+    let w = c .before .before .before in (
+      omega arith,
+      w .before .loop .inv .1 ∙ one-more _ _ _ (w .loop-test .taken) (yes (c .before .is-finite .ensures) (c .if1 .left)),
+    )
+
+returns-2 : tie.Need-returns-2 Inv-loop μ-loop
+returns-2 c = sym (c .before .loop .inv .1 ∙ none-left _ _ (c .before .loop .inv .0) (c .loop-test .left))
+
+pub all-finite-spec : {M : Type 1} → statement M
+all-finite-spec =
+    tie.close
+    (tie.spec
+    Inv-loop
+    μ-loop
+    loop-holds
+    mul-is-finite
+    shared-slice-read-is-finite
+    is-finite-requires
+    returns
+    add-i
+    loop-less
+    loop-again
+    returns-2)

@@ -1,0 +1,176 @@
+// Document 01's questions before a build, 1 to 9: those that are asked of what a caller gives. (Question
+// 10, whether every pivot is other than zero, is answered by factoring; see the crate `spline`.) They
+// look at the coefficient buffer's length alone, so that they can be asked without a buffer.
+ghost use mathlib.Core.Path.{_≡_};
+ghost use Prim.Native.Nat.{_≤_};
+ghost use lib.ListN.{take};
+ghost use Rattle.rules.specs.Floats.{finite};
+ghost use Rattle.rules.specs.Lists.{all};
+ghost use Rattle.rules.specs.Questions.{firstNo};
+ghost use Rattle.rules.specs.Build.{validOrder, validState, validRange, invDs, finiteState, buildQuestions};
+ghost use Rattle.questions.specs.Input.{inputOf};
+use rules::BoundaryState;
+use rules::PathParam;
+use rules::SplineConfig;
+
+// The number is neither NaN nor an infinity: x − x is 0 for every other.
+fn is_finite(x: f64) -> bool
+    ensures { λ r. ⌜ r ≡ finite x ⌝ }
+{
+    x - x == 0.0
+}
+
+// Question 1.
+fn valid_order(order: usize) -> bool
+    ensures { λ r. ⌜ r ≡ validOrder order ⌝ }
+{
+    if order == 3 {
+        return true;
+    }
+    if order == 5 {
+        return true;
+    }
+    order == 7
+}
+
+// Question 6, of a state with so many numbers beside it.
+fn valid_state(axes: usize, m: usize, state: BoundaryState, numbers: &[f64]) -> bool
+    requires { ⌜ (axes ≤ 8) × (m ≤ 3) ⌝ }
+    ensures { λ r. ⌜ r ≡ validState axes m state (now (numbers .entry)) ⌝ }
+{
+    match state {
+        BoundaryState::None => true,
+        BoundaryState::Given {
+            rows,
+            columns,
+            per_unit_of_s: _,
+        } => {
+            if rows != axes {
+                return false;
+            }
+            if columns != m {
+                return false;
+            }
+            numbers.len() == axes * m
+        }
+    }
+}
+
+// inv_ds: how many segments come to a unit of s.
+pub fn inv_ds(segments: usize, s_min: PathParam, s_max: PathParam) -> f64
+    requires { ⌜ segments ≤ 256 ⌝ }
+    ensures { λ r. ⌜ r ≡ invDs segments «s_min» «s_max» ⌝ }
+{
+    segments as f64 / (s_max.0 - s_min.0)
+}
+
+// Question 8.
+fn valid_range(segments: usize, s_min: PathParam, s_max: PathParam) -> bool
+    requires { ⌜ segments ≤ 256 ⌝ }
+    ensures { λ r. ⌜ r ≡ validRange segments «s_min» «s_max» ⌝ }
+{
+    let inv = inv_ds(segments, s_min, s_max);
+    if !is_finite(s_min.0) {
+        return false;
+    }
+    if !is_finite(s_max.0) {
+        return false;
+    }
+    if !(s_min.0 < s_max.0) {
+        return false;
+    }
+    if !is_finite(inv) {
+        return false;
+    }
+    0.0 < inv
+}
+
+// Question 9, of a list.
+fn all_finite(numbers: &[f64]) -> bool
+    ensures { λ r. ⌜ r ≡ all finite (now (numbers .entry)) ⌝ }
+{
+    let mut i = 0;
+    while i < numbers.len() {
+        if !is_finite(numbers[i]) {
+            return false;
+        }
+        i += 1;
+    }
+    true
+}
+
+// Question 9, of a state.
+fn finite_state(state: BoundaryState, numbers: &[f64]) -> bool
+    ensures { λ r. ⌜ r ≡ finiteState state (now (numbers .entry)) ⌝ }
+{
+    match state {
+        BoundaryState::None => true,
+        BoundaryState::Given {
+            rows: _,
+            columns: _,
+            per_unit_of_s: _,
+        } => all_finite(numbers),
+    }
+}
+
+// The number of the first no, and 0 where all nine say yes. Question 6 is asked of both states, so the
+// nine are the first ten of the definition's list.
+pub fn build_questions(
+    config: SplineConfig,
+    points: usize,
+    axes: usize,
+    waypoints: &[f64],
+    start: &[f64],
+    end: &[f64],
+    cells: usize,
+) -> u32
+    ensures { λ r. ⌜ r ≡ firstNo (take 10 (buildQuestions (inputOf config points axes (now (waypoints .entry)) (now (start .entry)) (now (end .entry))) cells)) ⌝ }
+{
+    let order = config.order;
+    let start_state = config.start_state;
+    let end_state = config.end_state;
+    let s_min = config.s_min;
+    let s_max = config.s_max;
+    if !valid_order(order) {
+        return 302; // question 1
+    }
+    if points < 2 {
+        return 304; // question 2
+    }
+    if 257 < points {
+        return 2; // question 3
+    }
+    if axes < 1 {
+        return 300; // question 4, too few
+    }
+    if 8 < axes {
+        return 300; // question 4, too many
+    }
+    if waypoints.len() != axes * points {
+        return 3; // question 5
+    }
+    let m = (order - 1) / 2;
+    if !valid_state(axes, m, start_state, start) {
+        return 303; // question 6, of the start
+    }
+    if !valid_state(axes, m, end_state, end) {
+        return 303; // question 6, of the end
+    }
+    let segments = points - 1;
+    if cells != axes * segments * (order + 1) {
+        return 2; // question 7
+    }
+    if !valid_range(segments, s_min, s_max) {
+        return 301; // question 8
+    }
+    if !all_finite(waypoints) {
+        return 4; // question 9, of the waypoints
+    }
+    if !finite_state(start_state, start) {
+        return 4; // question 9, of the start
+    }
+    if !finite_state(end_state, end) {
+        return 4; // question 9, of the end
+    }
+    0
+}
