@@ -5,18 +5,18 @@ use mathlib.Core.Bool.{Bool, true, false}
 use mathlib.Core.List.{List, [], _∷_, _++_, append-assoc, append-nil}
 use mathlib.Core.Logic.{_⊎_, inl, inr}
 use Prim.Native.Nat.{ℕ, zero, suc, _+_, _-_, _*_, _/_, _%_, _<_, _≤_}
-use native.Mathlib.Nat.{suc-mul, zero-mul, mul-zero, div-lt-iff-lt-mul, div-add-mod', mod-lt, eq-zero-or-pos, not-suc-le-zero, mul-le-mul-right, mul-add-div-right, mul-add-mod-self-right, div-eq-of-lt, mod-eq-of-lt, add-zero}
+use native.Mathlib.Nat.{suc-mul, zero-mul, mul-zero, div-lt-iff-lt-mul, div-add-mod', mod-lt, eq-zero-or-pos, not-suc-le-zero, mul-add-div-right, mul-add-mod-self-right, div-eq-of-lt, mod-eq-of-lt, add-zero}
 use native.Mathlib.Numerals.{add-one}
 use native.Mathlib.Omega.{arith}
 use borrow.Author.Tests.{ltb-true, ltb-false}
-use lib.Dec.{ltb}
+use lib.Dec.{T, ltb}
 use lib.ListN.{length, getD, take, drop, set, length-append, length-drop, drop-of-length-le, List·getD-append}
 use lib.Seq.{take-all, take-at, drop-at, set-at, getD-at, getD-append-add, getD-drop, getD-take, drop-cons, drop-drop, ext-getD, take-append-le, drop-append-le}
-use Rattle.rules.specs.Lists.{joined, listed}
+use Rattle.rules.specs.Lists.{joined, listed, all}
 use lib.Ieee.{Float}
 use Rattle.rules.specs.Floats.{_!_, +0}
 use Rattle.rules.specs.Solve.{matrix, entry}
-use Rattle.rules.proofs.Lists.{below-suc, length-listed, length-joined, joined-part}
+use Rattle.rules.proofs.Lists.{below-suc, part-inside, length-listed, length-joined, joined-part, all-of}
 
 pub lt-or-le : (j i : ℕ) → (j < i) ⊎ (i ≤ j)
 lt-or-le j i = go (ltb j i) refl
@@ -109,6 +109,10 @@ module _ {A : Type 0} (d : A) where
       cell : (xs : List A) (p : ℕ) → getD (take 1 (drop p xs)) 0 d ≡ getD xs p d
       cell xs p = getD-take 1 (drop p xs) 0 d (omega arith) ∙ getD-drop p xs 0 d ∙ ap (λ (q : ℕ). getD xs q d) (add-zero p)
 
+-- a test that passes at each cell's number passes at the list
+pub all-listed : {A : Type 0} (f : A → Bool) (n : ℕ) (g : ℕ → A) → ((i : ℕ) → T (f (g i))) → T (all f (listed n g))
+all-listed f n g h = all-of f (listed n g) (g 0) (λ i l. rw (listed-at (g 0) n g i (rw length-listed at l)) (h i))
+
 -- ---- parts
 
 module _ {A : Type 0} (k : ℕ) (f : ℕ → List A) where
@@ -130,7 +134,7 @@ module _ {A : Type 0} (k : ℕ) (f : ℕ → List A) where
   -- the i-th part, read
   pub parts-at : (i : ℕ) (xs : List A) (j : ℕ) → ((j : ℕ) → j < i → length (f j) ≡ k) → j < i → take k (drop (j * k) (parts k i f xs)) ≡ f j
   parts-at i xs j e h =
-      let room : j * k + k ≤ i * k = rw suc-mul at (mul-le-mul-right k h) in
+      let room : j * k + k ≤ i * k = part-inside k h in
       let n : length (joined i f) ≡ i * k = length-joined i k f e in
       ap (take k) (drop-append-le (j * k) (joined i f) (drop (i * k) xs) (rw n (omega arith)))
       ∙ take-append-le k (drop (j * k) (joined i f)) (drop (i * k) xs) (simp (length-drop, n) (omega arith))

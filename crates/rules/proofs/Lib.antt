@@ -1,5 +1,4 @@
 pub mod Lists
-pub mod Places
 pub mod Filling
 pub mod Questions
 pub mod Solve

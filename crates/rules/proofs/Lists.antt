@@ -2,20 +2,24 @@
 -- Assumes nothing.
 use mathlib.Core.Path.{_≡_, refl, sym, ap, _∙_, subst}
 use mathlib.Core.Bool.{Bool}
-use mathlib.Core.List.{List, _++_}
+use mathlib.Core.List.{List, [], _∷_, _++_}
 use mathlib.Core.Logic.{_⊎_, inl, inr}
 use Prim.Native.Nat.{ℕ, zero, suc, _+_, _*_, _<_, _≤_}
 use native.Mathlib.Nat.{eq-or-lt-of-le, le-of-suc-le-suc, not-suc-le-zero, le-of-eq, add-zero, add-mul, zero-mul, suc-mul, mul-assoc, mul-le-mul-right}
 use native.Mathlib.Omega.{arith}
 use lib.Dec.{T}
-use lib.ListN.{length, take, drop, length-append, length-drop}
+use lib.ListN.{length, getD, take, drop, length-append, length-drop}
 use lib.Seq.{take-all, take-append-le, drop-append-le, drop-append-add}
 use lib.Ieee.Fits.{and-i, and-l, and-r}
-use Rattle.rules.specs.Lists.{joined, listed, every}
+use Rattle.rules.specs.Lists.{joined, listed, all, every}
 
 -- a number below n + 1 is below n, or is n
 pub below-suc : {i n : ℕ} → i < suc n → (i ≡ n) ⊎ (i < n)
 below-suc h = eq-or-lt-of-le (le-of-suc-le-suc h)
+
+-- the i-th of n parts of k cells each ends within them
+pub part-inside : (k : ℕ) {i n : ℕ} → i < n → i * k + k ≤ n * k
+part-inside k h = rw suc-mul at (mul-le-mul-right k h)
 
 module _ {A : Type 0} where
   pub length-listed : (n : ℕ) (f : ℕ → A) → length (listed n f) ≡ n
@@ -43,7 +47,7 @@ module _ {A : Type 0} where
           → take count (drop (i * k + at) (joined n f ++ f n)) ≡ take count (drop at (f i))
       go (inl q) r = rw (q, ← before) (ap (take count) (drop-append-add (joined n f) (f n) at))
       go (inr h′) r =
-          let room : i * k + k ≤ n * k = rw suc-mul at (mul-le-mul-right k h′) in
+          let room : i * k + k ≤ n * k = part-inside k h′ in
           ap (take count) (drop-append-le (i * k + at) (joined n f) (f n) (rw before (omega arith)))
           ∙ take-append-le count (drop (i * k + at) (joined n f)) (f n) (simp (length-drop, before) (omega arith))
           ∙ r h′ l
@@ -52,12 +56,23 @@ module _ {A : Type 0} where
   pub joined-twice : (m n k : ℕ) (f : ℕ → ℕ → List A) → ((i j : ℕ) → length (f i j) ≡ k)
       → (i j : ℕ) → i < m → j < n → take k (drop ((i * n + j) * k) (joined m (λ i′. joined n (f i′)))) ≡ f i j
   joined-twice m n k f e i j h l =
-      let room : j * k + k ≤ n * k = rw suc-mul at (mul-le-mul-right k l) in
       ap (λ (at : ℕ). take k (drop at (joined m (λ i′. joined n (f i′))))) (add-mul (i * n) j k ∙ ap (λ (at : ℕ). at + j * k) (mul-assoc i n k))
-      ∙ joined-part m (n * k) _ (λ i′ h′. length-joined n k (f i′) (λ j′ l′. e i′ j′)) i (j * k) k h room
+      ∙ joined-part m (n * k) _ (λ i′ h′. length-joined n k (f i′) (λ j′ l′. e i′ j′)) i (j * k) k h (part-inside k l)
       ∙ ap (λ (at : ℕ). take k (drop at (joined n (f i)))) (sym (add-zero (j * k)))
       ∙ joined-part n k (f i) (λ j′ l′. e i j′) j 0 k l (omega arith)
       ∙ take-all k (f i j) (le-of-eq (e i j))
+
+-- a test that passes at each element passes at each place, beyond the end too if it passes at what is read there
+pub all-at : {A : Type 0} (f : A → Bool) (xs : List A) (d : A) → T (f d) → T (all f xs) → (i : ℕ) → T (f (getD xs i d))
+unfolding all
+all-at f [] d u t i = u
+all-at f (x ∷ xs) d u t zero = and-l (f x) (all f xs) t
+all-at f (x ∷ xs) d u t (suc i) = all-at f xs d u (and-r (f x) (all f xs) t) i
+
+pub all-of : {A : Type 0} (f : A → Bool) (xs : List A) (d : A) → ((i : ℕ) → i < length xs → T (f (getD xs i d))) → T (all f xs)
+unfolding all
+all-of f [] d h = tt
+all-of f (x ∷ xs) d h = and-i (f x) (all f xs) (h 0 (omega arith)) (all-of f xs d (λ i l. h (suc i) (omega arith)))
 
 -- `every` passes exactly where its test passes at each place below n
 pub every-at : (n : ℕ) (f : ℕ → Bool) → T (every n f) → (i : ℕ) → i < n → T (f i)

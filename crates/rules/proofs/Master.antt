@@ -71,7 +71,7 @@ module _ (s : MasterSet) where
         joint = λ i h. each _ _ _ (every-at (n - 1) _ j i h);
       }
 
-  of-equations : Equations s → T (endpointEquations s) × T (jointEquations s)
+  pub of-equations : Equations s → T (endpointEquations s) × T (jointEquations s)
   unfolding endpointEquations jointEquations meetsLeft meetsRight meetsStart meetsEnd meetsJoints
   of-equations q = (
     and-i (left && right && start) end

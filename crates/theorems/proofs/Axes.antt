@@ -10,7 +10,7 @@ use Rattle.rules.specs.Floats.{_!_}
 use Rattle.rules.specs.Lists.{listed}
 use Rattle.rules.specs.Tables.{mOf}
 use Rattle.rules.specs.Build.{BuildInput, acceptedRecord, divided, boundaryNumber, axisWaypoints, axisState}
-use Rattle.rules.proofs.Places.{listed-same}
+use Rattle.rules.proofs.Filling.{listed-ext}
 use Rattle.theorems.specs.Axes.{marked, givenNumber, Alike, AxesAreIndependent}
 use Rattle.theorems.proofs.Parts.{coefficientsOf, part-is}
 
@@ -27,7 +27,7 @@ boundary-is axes inv (Given rows columns perUnit) numbers axis r = refl
 module _ (b b′ : BuildInput) (axis axis′ : ℕ) (a : Alike b b′ axis axis′) where
   same-waypoints : axisWaypoints b axis ≡ axisWaypoints b′ axis′
   unfolding axisWaypoints
-  same-waypoints = listed-same (b .points) _ _ (a .waypoint) ∙ ap (λ (n : ℕ). listed n (λ p. b′ .waypoints ! (p * b′ .axes + axis′))) (a .points)
+  same-waypoints = listed-ext (b .points) _ _ (a .waypoint) ∙ ap (λ (n : ℕ). listed n (λ p. b′ .waypoints ! (p * b′ .axes + axis′))) (a .points)
 
   same-inverse : acceptedRecord b .«inv_ds» ≡ acceptedRecord b′ .«inv_ds»
   unfolding acceptedRecord
@@ -39,7 +39,7 @@ module _ (b b′ : BuildInput) (axis axis′ : ℕ) (a : Alike b b′ axis axis�
       → axisState b state numbers axis ≡ axisState b′ state′ numbers′ axis′
   unfolding axisState
   same-state state state′ numbers numbers′ mark given =
-      listed-same (mOf (b .config .order)) _ _ (λ r l.
+      listed-ext (mOf (b .config .order)) _ _ (λ r l.
       boundary-is (b .axes) _ state numbers axis r
       ∙ (rw (same-inverse, mark, given r l))
       ∙ sym (boundary-is (b′ .axes) _ state′ numbers′ axis′ r))

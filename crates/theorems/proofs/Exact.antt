@@ -1,12 +1,12 @@
 -- Two-point builds of whole numbers are exact. Assumes nothing.
-use mathlib.Core.Path.{_≡_, refl, sym, ap, ap₂, _∙_, subst, subst₂}
+use mathlib.Core.Path.{_≡_, refl, sym, ap, ap₂, _∙_, subst₂}
 use mathlib.Core.Bool.{Bool, true, false, cond, _&&_}
 use mathlib.Core.List.{List, [], _∷_, map}
 use Prim.Native.Nat.{ℕ, zero, suc, _+_, _-_, _*_, _<_}
 use native.Mathlib.Nat.{one-mul, zero-mul, not-suc-le-zero}
 use native.Mathlib.Omega.{arith}
 use lib.Dec.{T, eqb}
-use lib.IntN.{ℤ, _-ℤ_, +ℤ-comm, -ℤ-+ℤ-cancel}
+use lib.IntN.{_-ℤ_, +ℤ-comm, -ℤ-+ℤ-cancel}
 use lib.ListN.{length, length-map, List·getD-map}
 use lib.Ieee.{Float}
 use lib.Ieee.Bits.{is-true}
@@ -21,11 +21,11 @@ use Rattle.rules.specs.Lists.{all, every, listed, joined}
 use Rattle.rules.specs.Questions.{ask, firstNo}
 use Rattle.rules.specs.Tables.{mOf}
 use Rattle.rules.specs.Build.{BuildInput, buildNumber, boundaryNumber, validOrder, dy, segmentCoefficients, nodeNumbers, axisCoefficients, axisWaypoints, axisState}
-use Rattle.rules.specs.Master.{MasterSet, MasterSays, same, Equations, within, at, coefficient, masterQuestions, masterNumber}
-use Rattle.rules.specs.Master.{meetsLeft, meetsRight, meetsStart, meetsEnd, meetsJoints, endpointEquations, jointEquations, checkMaster, masterSays}
-use Rattle.rules.proofs.Lists.{every-of}
-use Rattle.rules.proofs.Places.{all-at, all-of, all-listed}
-use Rattle.rules.proofs.Master.{eq→same}
+use Rattle.rules.specs.Master.{MasterSet, MasterSays, Equations, within, at, coefficient, masterQuestions, masterNumber}
+use Rattle.rules.specs.Master.{meetsJoints, endpointEquations, jointEquations, checkMaster, masterSays}
+use Rattle.rules.proofs.Lists.{all-at, all-of}
+use Rattle.rules.proofs.Filling.{all-listed}
+use Rattle.rules.proofs.Master.{of-equations}
 use Rattle.rules.proofs.Build.{length-segment, length-state, coefficient-count}
 use Rattle.theorems.specs.Axes.{marked, axisPart}
 use Rattle.theorems.specs.Exact.{wholeWithin, wholeState, WholeTwoPoints, axisSet, Exact, TwoPointsAreExact}
@@ -42,9 +42,6 @@ only-zero P p zero l = p
 only-zero P p (suc i) l = absurd (omega arith)
 
 -- tests that pass, as equations
-
-each-same : (n : ℕ) (f g : ℕ → ℤ) → ((i : ℕ) → i < n → f i ≡ g i) → every n (λ i. same (f i) (g i)) ≡ true
-each-same n f g e = is-true _ (every-of n _ (λ i l. eq→same (f i) (g i) (e i l)))
 
 equal : {a b : ℕ} → a ≡ b → eqb a b ≡ true
 equal e = is-true _ (eq→eqb e)
@@ -124,11 +121,8 @@ module _ (order : ℕ) (u v : Float) (left right : List Float) where
         all-of isWhole segment +0 (λ k l.
         whole-test (segment ! k) (coefficient-whole k (rw (length-segment m u (v ⊖ u) left right full) at l)))
 
-    endpoints : endpointEquations set ≡ true
-    unfolding endpointEquations meetsLeft meetsRight meetsStart meetsEnd
-    endpoints =
-        let q = equations in
-        ap₂ _&&_ (ap₂ _&&_ (ap₂ _&&_ (each-same 1 _ _ (q .left)) (each-same 1 _ _ (q .right))) (each-same m _ _ (q .start))) (each-same m _ _ (q .end))
+    endpoints : T (endpointEquations set)
+    endpoints = of-equations set equations .0
 
     number : masterNumber set ≡ cond (all within (set .table)) 0 4
     unfolding masterNumber masterQuestions firstNo
@@ -145,10 +139,10 @@ module _ (order : ℕ) (u v : Float) (left right : List Float) where
 
     check : checkMaster set ≡ masterSays (cond (all within (set .table)) Yes (Refused 4))
     unfolding checkMaster jointEquations meetsJoints every
-    check = ap₂ (λ (n : ℕ) (t : Bool). record { number = n; good = eqb n 0 && t && true }) number endpoints ∙ says (all within (set .table))
+    check = ap₂ (λ (n : ℕ) (t : Bool). record { number = n; good = eqb n 0 && t && true }) number (is-true (endpointEquations set) endpoints) ∙ says (all within (set .table))
 
     exact-segment : Exact segment set
-    exact-segment = record { whole = whole; endpoints = subst T (sym endpoints) tt; equations = equations; check = check }
+    exact-segment = record { whole = whole; endpoints = endpoints; equations = equations; check = check }
 
 -- ---- an axis of a build
 

@@ -19,7 +19,8 @@ use Rattle.rules.specs.Lists.{all, listed}
 use Rattle.rules.specs.Tables.{forOrder}
 use Rattle.rules.specs.Build.{upperCoefficient, segmentCoefficients}
 use Rattle.rules.specs.Master.{within, at, sumℤ}
-use Rattle.rules.proofs.Places.{listed-at, all-at}
+use Rattle.rules.proofs.Lists.{all-at}
+use Rattle.rules.proofs.Filling.{listed-at}
 use Rattle.theorems.specs.Exact.{wholeWithin}
 use Rattle.theorems.proofs.Sums.{form, unit, form-unit, sum-same, sum-split}
 use Rattle.theorems.proofs.Tables.{upperForm, coefficientForm, smallEntries, TableFacts}
@@ -151,5 +152,5 @@ module _ (m : ℕ) (facts : TableFacts m) (u v : Float) (left right : List Float
           subst (λ (a : Float). HasWhole a (form (2 * m + 2) (upperForm m (k - m)) xs))
           (sym (ap (λ (n : ℕ). (left ++ listed (m + 1) upper) ! n) place
           ∙ getD-append-add left (listed (m + 1) upper) (k - m) +0
-          ∙ listed-at (m + 1) upper +0 (k - m) (omega arith)))
+          ∙ listed-at +0 (m + 1) upper (k - m) (omega arith)))
           (upper-whole (k - m))

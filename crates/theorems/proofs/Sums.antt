@@ -3,13 +3,14 @@ use mathlib.Core.Path.{_≡_, refl, sym, ap, ap₂, _∙_}
 use mathlib.Core.Bool.{Bool, cond}
 use mathlib.Core.Logic.{_⊎_, inl, inr}
 use Prim.Native.Nat.{ℕ, zero, suc, _+_, _<_}
-use native.Mathlib.Nat.{add-zero, add-suc, not-suc-le-zero, eq-or-lt-of-le, le-of-suc-le-suc}
+use native.Mathlib.Nat.{add-zero, add-suc, not-suc-le-zero}
 use native.Mathlib.Omega.{arith}
 use lib.Dec.{eqb, eqb→eq, eqb-refl, not-T}
 use lib.IntN.{ℤ, pos, _+ℤ_, _*ℤ_, +ℤ-idl, +ℤ-idr, +ℤ-assoc, zero-*ℤ, *ℤ-zero}
 use lib.Ieee.Bits.{is-true, cond-no}
 use Rattle.integers.proofs.Laws.{+ℤ-swap, one-*ℤ, +ℤ-*ℤ, *ℤ-+ℤ, *ℤ-assoc}
 use Rattle.rules.specs.Master.{sumℤ}
+use Rattle.rules.proofs.Lists.{below-suc}
 
 -- ---- sums
 
@@ -84,7 +85,7 @@ unit-apart r l h = cond-no (eqb l r) (pos 1) (pos 0) (not-T (eqb l r) (λ t. h (
 pub form-unit : (n : ℕ) (x : ℕ → ℤ) (r : ℕ) → r < n → form n (unit r) x ≡ x r
 unfolding form sumℤ
 form-unit zero x r h = absurd (not-suc-le-zero h)
-form-unit (suc n) x r h = go (eq-or-lt-of-le (le-of-suc-le-suc h)) (form-unit n x r)
+form-unit (suc n) x r h = go (below-suc h) (form-unit n x r)
   where
     go : (r ≡ n) ⊎ (r < n) → (r < n → form n (unit r) x ≡ x r) → form n (unit r) x +ℤ unit r n *ℤ x n ≡ x r
     go (inl e) f =

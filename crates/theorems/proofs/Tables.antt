@@ -1,15 +1,14 @@
 -- What the exactness of two-point builds asks of the tables of document 01, found by computing: H makes a segment end as it should, and its numbers are small.
 -- A segment's 2m + 2 coefficients are linear forms of 2m + 2 numbers: the left waypoint, dy, the left node's m numbers and the right node's. Assumes nothing.
-use mathlib.Core.Path.{subst, sym}
-use mathlib.Core.Logic.{_⊎_, inl, inr}
-use mathlib.Core.Bool.{Bool, true, false, cond, _||_}
+use mathlib.Core.Bool.{Bool, cond}
 use Prim.Native.Nat.{ℕ, zero, suc, _+_, _-_, _*_}
-use lib.Dec.{T, leb, ltb, eqb, eqb→eq}
+use lib.Dec.{T, leb, ltb}
 use lib.IntN.{ℤ, pos, natAbs, _+ℤ_, _*ℤ_}
 use Rattle.rules.specs.Lists.{all, every}
 use Rattle.rules.specs.Tables.{mOf, m1, m2, m3, forOrder}
 use Rattle.rules.specs.Build.{validOrder}
 use Rattle.rules.specs.Master.{at, binomial, sumℤ, same}
+use Rattle.rules.proofs.Build.{by-order}
 use Rattle.theorems.proofs.Sums.{unit}
 
 -- row i of H, as a form that leaves the left waypoint out
@@ -40,24 +39,6 @@ pub record TableFacts (m : ℕ) : Type 0 where
   pub few : T (leb m 3)
   pub small : T (smallEntries m)
   pub ends : T (endsRight m)
-
-either : (a b : Bool) → T (a || b) → T a ⊎ T b
-either true b t = inl tt
-either false b t = inr t
-
--- what holds of 3, 5 and 7 holds of every valid order
-by-order : (P : ℕ → Type 0) → P 3 → P 5 → P 7 → (order : ℕ) → T (validOrder order) → P order
-unfolding validOrder
-by-order P three five seven order t = elim (either (eqb order 3 || eqb order 5) (eqb order 7) t) [
-  | inl u ↦ elim (either (eqb order 3) (eqb order 5) u) [
-    | inl v ↦ at-order 3 three v
-    | inr v ↦ at-order 5 five v
-  ]
-  | inr u ↦ at-order 7 seven u
-]
-  where
-    at-order : (k : ℕ) → P k → T (eqb order k) → P order
-    at-order k p t = subst P (sym (eqb→eq order k t)) p
 
 pub table-facts : (order : ℕ) → T (validOrder order) → TableFacts (mOf order)
 unfolding m1 m2 m3 forOrder all every binomial sumℤ same unit upperForm coefficientForm endForm endsRight smallEntries
