@@ -66,12 +66,16 @@ sticky-from v b x y e h (inr (o, l, u)) =
     still : (b y : ℕ) → b % 2 ≡ 0 → y ≤ b → y % 2 ≡ 1 → (b - y) % 2 ≡ 1
     still b y e h o = omega arith
 
+-- an even number that is at most an odd one is below it
+before-odd : (b y : ℕ) → b % 2 ≡ 0 → b ≤ y → y % 2 ≡ 1 → b ≤ y - 1
+before-odd b y e h o = omega arith
+
 pub sticky-less : (v b x y : ℕ) → b % 2 ≡ 0 → b ≤ y → Sticky v x y → Sticky v (x - b * v) (y - b)
 sticky-less v b x y e h (inl g) = inl (ap (λ (z : ℕ). z - b * v) g ∙ sym (sub-mul y b v))
 sticky-less v b x y e h (inr (o, l, u)) =
     let p : (y - b - 1) * v ≡ (y - 1) * v - b * v = ap (λ (z : ℕ). z * v) (before b y) ∙ sub-mul (y - 1) b v in
     let q : suc (y - b) * v ≡ suc y * v - b * v = ap (λ (z : ℕ). z * v) (after b y h) ∙ sub-mul (suc y) b v in
-    let w : b * v ≤ (y - 1) * v = mul-le-mul-right v (room b y e h o) in
+    let w : b * v ≤ (y - 1) * v = mul-le-mul-right v (before-odd b y e h o) in
     inr (still b y e h o, omega (arith, p, l, w), omega (arith, q, u, w, l))
   where
     before : (b y : ℕ) → y - b - 1 ≡ y - 1 - b
@@ -79,9 +83,6 @@ sticky-less v b x y e h (inr (o, l, u)) =
 
     after : (b y : ℕ) → b ≤ y → suc (y - b) ≡ suc y - b
     after b y h = omega arith
-
-    room : (b y : ℕ) → b % 2 ≡ 0 → b ≤ y → y % 2 ≡ 1 → b ≤ y - 1
-    room b y e h o = omega arith
 
     still : (b y : ℕ) → b % 2 ≡ 0 → b ≤ y → y % 2 ≡ 1 → (y - b) % 2 ≡ 1
     still b y e h o = omega arith
@@ -138,10 +139,7 @@ sticky-below v x y t p h (inr (o, l, u)) = lt-of-lt-of-le u (mul-le-mul-right v 
 
 pub sticky-above : (v x y t : ℕ) → t % 2 ≡ 0 → t ≤ y → Sticky v x y → t * v ≤ x
 sticky-above v x y t e h (inl g) = le-trans (mul-le-mul-right v h) (le-of-eq (sym g))
-sticky-above v x y t e h (inr (o, l, u)) = le-trans (mul-le-mul-right v (room t y e h o)) (le-of-lt l)
-  where
-    room : (t y : ℕ) → t % 2 ≡ 0 → t ≤ y → y % 2 ≡ 1 → t ≤ y - 1
-    room t y e h o = omega arith
+sticky-above v x y t e h (inr (o, l, u)) = le-trans (mul-le-mul-right v (before-odd t y e h o)) (le-of-lt l)
 
 -- ---- what rounding sees
 

@@ -2,7 +2,7 @@
 use mathlib.Core.Path.{_≡_, sym, ap, ap₂, _∙_, subst, subst₂}
 use mathlib.Core.Logic.{_⊎_, inl, inr}
 use Prim.Native.Nat.{ℕ, suc, _+_, _-_, _*_, _/_, _%_, _^_, _≤_, _<_, compare, min}
-use native.Mathlib.Nat.{le-trans, le-of-eq, lt-of-lt-of-le, lt-irrefl, lt-of-not-le, mul-comm, mul-assoc, mul-left-comm, mul-pos, mul-le-mul-right, mul-lt-mul-of-pos-right, div-lt-iff-lt-mul, le-div-iff-mul-le, mul-mod-left, one-mul, mul-one, zero-lt-suc, add-comm, le-add-right, le-add-left, le-of-lt}
+use native.Mathlib.Nat.{le-trans, le-of-eq, lt-of-lt-of-le, lt-irrefl, lt-of-not-le, mul-comm, mul-assoc, mul-left-comm, mul-pos, mul-le-mul-right, mul-lt-mul-of-pos-right, div-lt-iff-lt-mul, le-div-iff-mul-le, one-mul, mul-one, zero-lt-suc, add-comm, le-add-right, le-add-left, le-of-lt}
 use native.Mathlib.Omega.{arith}
 use mathlib.Core.Bool.{Bool, not, cond}
 use lib.Dec.{T}
@@ -14,13 +14,13 @@ use lib.Ieee.Nearest.{closest, closest-same, nearest-ge}
 use Rattle.rounding.specs.Sticky.{Sticky}
 use Rattle.rounding.proofs.Sticky.{sticky-add, sticky-from, sticky-below, sticky-above, closest-sticky}
 use Rattle.rounding.proofs.Sums.{by-signs, like-times, less-times}
-use Rattle.rounding.proofs.Pattern.{Digits, units-bits}
+use Rattle.rounding.proofs.Pattern.{twice, Digits, units-bits}
 
 even-power : (d : ℕ) → 0 < d → 2 ^ d % 2 ≡ 0
-even-power d h = ap (λ (x : ℕ). x % 2) (ap (λ (x : ℕ). 2 ^ x) (pred d h) ∙ pow-add 2 (d - 1) 1) ∙ mul-mod-left (2 ^ (d - 1)) 2
+even-power d h = ap (λ (x : ℕ). x % 2) (twice d h) ∙ even (2 ^ (d - 1))
   where
-    pred : (d : ℕ) → 0 < d → d ≡ d - 1 + 1
-    pred d h = omega arith
+    even : (a : ℕ) → (a + a) % 2 ≡ 0
+    even a = omega arith
 
 -- x * 2 ^ g / (v * 2 ^ h), where the word w is x / v with a sticky last digit. Of w the d last digits are dropped, and what is kept counts
 -- 2 ^ k of the format's smallest values. Either k is 0, or w has all the digits that it may have.

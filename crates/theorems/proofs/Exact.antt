@@ -5,12 +5,13 @@ use mathlib.Core.List.{List, [], _∷_, map}
 use Prim.Native.Nat.{ℕ, zero, suc, _+_, _-_, _*_, _<_}
 use native.Mathlib.Nat.{one-mul, zero-mul, not-suc-le-zero}
 use native.Mathlib.Omega.{arith}
+use borrow.Author.Tests.{eq-eqb}
 use lib.Dec.{T, eqb}
 use lib.IntN.{_-ℤ_, +ℤ-comm, -ℤ-+ℤ-cancel}
 use lib.ListN.{length, length-map, List·getD-map}
 use lib.Ieee.{Float}
 use lib.Ieee.Bits.{is-true}
-use lib.Ieee.Fits.{and-l, and-r, eq→eqb}
+use lib.Ieee.Fits.{and-l, and-r}
 use Rattle.rounding.specs.Whole.{isWhole, wholeOf}
 use Rattle.rounding.proofs.Whole.{HasWhole, whole-test, whole-number}
 use Rattle.rules.specs.declared.BoundaryState.{BoundaryState}
@@ -41,11 +42,7 @@ only-zero : (P : ℕ → Type 0) → P 0 → (i : ℕ) → i < 1 → P i
 only-zero P p zero l = p
 only-zero P p (suc i) l = absurd (omega arith)
 
--- tests that pass, as equations
-
-equal : {a b : ℕ} → a ≡ b → eqb a b ≡ true
-equal e = is-true _ (eq→eqb e)
-
+-- a test that passes, as an equation
 all-within : (xs : List Float) → T (all wholeWithin xs) → all within (map wholeOf xs) ≡ true
 unfolding all wholeWithin
 all-within [] t = refl
@@ -129,9 +126,9 @@ module _ (order : ℕ) (u v : Float) (left right : List Float) where
     number =
         rw (
           is-true (validOrder order) valid,
-          equal (length-map left wholeOf ∙ full),
-          equal (length-map right wholeOf ∙ full′),
-          equal (length-map segment wholeOf ∙ length-segment m u (v ⊖ u) left right full ∙ coefficient-count order valid ∙ sym (one-mul (order + 1))),
+          eq-eqb _ _ (length-map left wholeOf ∙ full),
+          eq-eqb _ _ (length-map right wholeOf ∙ full′),
+          eq-eqb _ _ (length-map segment wholeOf ∙ length-segment m u (v ⊖ u) left right full ∙ coefficient-count order valid ∙ sym (one-mul (order + 1))),
           all-within (u ∷ v ∷ []) tw,
           all-within left tl,
           all-within right tr,

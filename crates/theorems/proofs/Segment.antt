@@ -4,11 +4,10 @@ use mathlib.Core.Bool.{Bool, cond}
 use mathlib.Core.List.{List, _∷_, _++_}
 use Prim.Native.Nat.{ℕ, suc, _+_, _-_, _*_, _<_}
 use native.Mathlib.Omega.{arith}
-use lib.Dec.{ltb, lt→ltb}
+use borrow.Author.Tests.{lt-ltb}
 use lib.IntN.{ℤ, pos, _+ℤ_, _*ℤ_}
 use lib.ListN.{length, List·getD-append}
 use lib.Seq.{getD-append-add}
-use lib.Ieee.Bits.{is-true}
 use Rattle.rules.specs.Master.{at, coefficient, binomial, atEnd}
 use Rattle.rules.proofs.Lists.{every-at}
 use Rattle.rules.proofs.Master.{same→eq}
@@ -53,7 +52,7 @@ module _ (m : ℕ) (y d : ℤ) (left right : List ℤ) (full : length left ≡ m
       starts = is 0 (omega arith) ∙ form-unit size x 0 (omega arith);
       starts-with = λ r l.
           is (suc r) (omega arith)
-          ∙ ap (λ (t : Bool). form size (cond t (unit (suc (suc r))) (upperForm m (r - m))) x) (is-true (ltb r m) (lt→ltb r m l))
+          ∙ ap (λ (t : Bool). form size (cond t (unit (suc (suc r))) (upperForm m (r - m))) x) (lt-ltb r m l)
           ∙ form-unit size x (suc (suc r)) (omega arith)
           ∙ number-left r l;
       ends = end-form 0 (omega arith) ∙ form-add size x (unit 0) (unit 1) ∙ ap₂ _+ℤ_ (form-unit size x 0 (omega arith)) (form-unit size x 1 (omega arith));

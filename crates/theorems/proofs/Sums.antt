@@ -5,9 +5,9 @@ use mathlib.Core.Logic.{_⊎_, inl, inr}
 use Prim.Native.Nat.{ℕ, zero, suc, _+_, _<_}
 use native.Mathlib.Nat.{add-zero, add-suc, not-suc-le-zero}
 use native.Mathlib.Omega.{arith}
-use lib.Dec.{eqb, eqb→eq, eqb-refl, not-T}
+use borrow.Author.Tests.{eq-eqb, ne-eqb}
+use lib.Dec.{eqb}
 use lib.IntN.{ℤ, pos, _+ℤ_, _*ℤ_, +ℤ-idl, +ℤ-idr, +ℤ-assoc, zero-*ℤ, *ℤ-zero}
-use lib.Ieee.Bits.{is-true, cond-no}
 use Rattle.integers.proofs.Laws.{+ℤ-swap, one-*ℤ, +ℤ-*ℤ, *ℤ-+ℤ, *ℤ-assoc}
 use Rattle.rules.specs.Master.{sumℤ}
 use Rattle.rules.proofs.Lists.{below-suc}
@@ -76,11 +76,11 @@ module _ (n : ℕ) (x : ℕ → ℤ) where
 
 unit-here : (r : ℕ) → unit r r ≡ pos 1
 unfolding unit
-unit-here r = ap (λ (t : Bool). cond t (pos 1) (pos 0)) (is-true (eqb r r) (eqb-refl r))
+unit-here r = ap (λ (t : Bool). cond t (pos 1) (pos 0)) (eq-eqb r r refl)
 
 unit-apart : (r l : ℕ) → (l ≡ r → ⊥) → unit r l ≡ pos 0
 unfolding unit
-unit-apart r l h = cond-no (eqb l r) (pos 1) (pos 0) (not-T (eqb l r) (λ t. h (eqb→eq l r t)))
+unit-apart r l h = ap (λ (t : Bool). cond t (pos 1) (pos 0)) (ne-eqb l r h)
 
 pub form-unit : (n : ℕ) (x : ℕ → ℤ) (r : ℕ) → r < n → form n (unit r) x ≡ x r
 unfolding form sumℤ
