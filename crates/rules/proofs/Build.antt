@@ -28,12 +28,12 @@ length-segment m y d left right h = simp (length-append, length-listed, h) (omeg
 -- ---- one axis
 
 module _ (m n : ℕ) (w start end : List Float) where
-  length-solvedSide : (i : ℕ) → length (solvedSide m n w start end i) ≡ m
+  pub length-solvedSide : (i : ℕ) → length (solvedSide m n w start end i) ≡ m
   unfolding solvedSide
   length-solvedSide zero = length-solve m _ _
   length-solvedSide (suc i) = length-solve m _ _
 
-  length-inner : (i k : ℕ) → length (innerNumbers m n w start end i k) ≡ m
+  pub length-inner : (i k : ℕ) → length (innerNumbers m n w start end i k) ≡ m
   unfolding innerNumbers
   length-inner i zero = length-solvedSide i
   length-inner i (suc k) = length-minus m _ _

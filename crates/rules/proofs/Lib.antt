@@ -3,6 +3,7 @@ pub mod Filling
 pub mod Questions
 pub mod Solve
 pub mod Build
+pub mod Answers
 pub mod Query
 pub mod Master
 pub mod Pieces

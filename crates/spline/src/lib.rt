@@ -1,0 +1,446 @@
+// The build, modules 2 to 5 of document 01: refuse first, then fill.
+ghost use mathlib.Core.Path.{_≡_};
+ghost use mathlib.Core.Bool.{cond};
+ghost use Prim.Native.Nat.{_+_, _*_, _≤_, _<_};
+ghost use lib.ListN.{length};
+ghost use Rattle.rules.specs.Lists.{joined};
+ghost use Rattle.rules.specs.Build.{refusedRecord, buildAnswer, bufferAfter};
+ghost use Rattle.block.specs.Kept.{Room};
+ghost use Rattle.questions.specs.Input.{inputOf};
+ghost use Rattle.spline.specs.Kept.{Matrices};
+ghost use Rattle.spline.specs.Axis.{Shared, Fillable, axisTable, everyNode};
+use rules::BoundaryState;
+use rules::BuildAnswer;
+use rules::OutOfRangeMode;
+use rules::PathParam;
+use rules::PathRecord;
+use rules::SplineConfig;
+
+mod boundary;
+mod row;
+mod segment;
+mod tables;
+
+// One axis: the numbers of its first and last node, then its coefficients.
+fn fill_axis(
+    m: usize,
+    n: usize,
+    r: &[f64],
+    a: &[f64],
+    c: &[f64],
+    h_coeff: &[f64],
+    entries: &[f64],
+    rows: &[usize],
+    solved_c: &[f64],
+    axes: usize,
+    waypoints: &[f64],
+    inv_ds: f64,
+    start_state: BoundaryState,
+    start: &[f64],
+    end_state: BoundaryState,
+    end: &[f64],
+    axis: usize,
+    ends: &mut [f64],
+    side: &mut [f64],
+    solved: &mut [f64],
+    chunk: &mut [f64],
+)
+    requires { ⌜ Shared m n (now r) (now a) (now c) (now «h_coeff») (now entries) (now rows) (now «solved_c») axes (now waypoints) «start_state» (now start) «end_state» (now end) × (axis < axes) × (length (now ends) ≡ m + m) × (length (now side) ≡ m) × (n * m ≤ length (now solved)) × (length (now chunk) ≡ (n + 1) * (2 * m + 2)) ⌝ }
+    ensures { λ x. ⌜ now (chunk .exit) ≡ axisTable m n axes (now (waypoints .entry)) «inv_ds» «start_state» (now (start .entry)) «end_state» (now (end .entry)) axis ⌝ }
+{
+    boundary::both_ends(
+        m,
+        axes,
+        inv_ds,
+        start_state,
+        start,
+        end_state,
+        end,
+        axis,
+        ends,
+    );
+    row::thomas_row(
+        m,
+        n,
+        r,
+        a,
+        c,
+        h_coeff,
+        entries,
+        rows,
+        solved_c,
+        axes,
+        waypoints,
+        axis,
+        ends,
+        side,
+        solved,
+        chunk,
+    );
+}
+
+// All axes, one after the other, in the place of what the buffer held.
+fn fill_axes(
+    m: usize,
+    n: usize,
+    r: &[f64],
+    a: &[f64],
+    c: &[f64],
+    h_coeff: &[f64],
+    entries: &[f64],
+    rows: &[usize],
+    solved_c: &[f64],
+    axes: usize,
+    waypoints: &[f64],
+    inv_ds: f64,
+    start_state: BoundaryState,
+    start: &[f64],
+    end_state: BoundaryState,
+    end: &[f64],
+    ends: &mut [f64],
+    side: &mut [f64],
+    solved: &mut [f64],
+    coeffs: &mut [f64],
+)
+    requires { ⌜ Shared m n (now r) (now a) (now c) (now «h_coeff») (now entries) (now rows) (now «solved_c») axes (now waypoints) «start_state» (now start) «end_state» (now end) × (length (now ends) ≡ m + m) × (length (now side) ≡ m) × (n * m ≤ length (now solved)) × (length (now coeffs) ≡ axes * ((n + 1) * (2 * m + 2))) ⌝ }
+    ensures { λ x. ⌜ now (coeffs .exit) ≡ joined axes (axisTable m n axes (now (waypoints .entry)) «inv_ds» «start_state» (now (start .entry)) «end_state» (now (end .entry))) ⌝ }
+{
+    let stride = (n + 1) * (2 * m + 2);
+    let mut axis = 0;
+    while axis < axes {
+        let at = axis * stride;
+        fill_axis(
+            m,
+            n,
+            r,
+            a,
+            c,
+            h_coeff,
+            entries,
+            rows,
+            solved_c,
+            axes,
+            waypoints,
+            inv_ds,
+            start_state,
+            start,
+            end_state,
+            end,
+            axis,
+            ends,
+            side,
+            solved,
+            &mut coeffs[at..at + stride],
+        );
+        axis += 1;
+    }
+}
+
+// Question 10, and where it says yes the table: the nodes' matrices are factored once, for all axes, into
+// the lists that are lent for them, before the first cell is written.
+fn solve_general_thomas(
+    m: usize,
+    n: usize,
+    a: &[f64],
+    b: &[f64],
+    c: &[f64],
+    r: &[f64],
+    h_coeff: &[f64],
+    axes: usize,
+    waypoints: &[f64],
+    inv_ds: f64,
+    start_state: BoundaryState,
+    start: &[f64],
+    end_state: BoundaryState,
+    end: &[f64],
+    entries: &mut [f64],
+    rows: &mut [usize],
+    solved_c: &mut [f64],
+    ends: &mut [f64],
+    side: &mut [f64],
+    solved: &mut [f64],
+    coeffs: &mut [f64],
+) -> bool
+    requires { ⌜ Fillable m n axes (now waypoints) «start_state» (now start) «end_state» (now end) (now coeffs) × Matrices m (now a) (now b) (now c) (now r) (now «h_coeff») × Room m n (now entries) (now rows) (now «solved_c») × (length (now ends) ≡ m + m) × (length (now side) ≡ m) × (n * m ≤ length (now solved)) ⌝ }
+    ensures { λ ok. ⌜ (ok ≡ everyNode m n) × (now (coeffs .exit) ≡ cond ok (joined axes (axisTable m n axes (now (waypoints .entry)) «inv_ds» «start_state» (now (start .entry)) «end_state» (now (end .entry)))) (now (coeffs .entry))) ⌝ }
+{
+    if !block::factor_nodes(m, n, a, b, c, entries, rows, solved_c) {
+        return false;
+    }
+    fill_axes(
+        m,
+        n,
+        r,
+        a,
+        c,
+        h_coeff,
+        entries,
+        rows,
+        solved_c,
+        axes,
+        waypoints,
+        inv_ds,
+        start_state,
+        start,
+        end_state,
+        end,
+        ends,
+        side,
+        solved,
+        coeffs,
+    );
+    true
+}
+
+// The same with the tables of m, which are made once for a build.
+fn factor_and_fill(
+    m: usize,
+    n: usize,
+    axes: usize,
+    waypoints: &[f64],
+    inv_ds: f64,
+    start_state: BoundaryState,
+    start: &[f64],
+    end_state: BoundaryState,
+    end: &[f64],
+    entries: &mut [f64],
+    rows: &mut [usize],
+    solved_c: &mut [f64],
+    solved: &mut [f64],
+    coeffs: &mut [f64],
+) -> bool
+    requires { ⌜ Fillable m n axes (now waypoints) «start_state» (now start) «end_state» (now end) (now coeffs) × Room m n (now entries) (now rows) (now «solved_c») × (n * m ≤ length (now solved)) ⌝ }
+    ensures { λ ok. ⌜ (ok ≡ everyNode m n) × (now (coeffs .exit) ≡ cond ok (joined axes (axisTable m n axes (now (waypoints .entry)) «inv_ds» «start_state» (now (start .entry)) «end_state» (now (end .entry)))) (now (coeffs .entry))) ⌝ }
+{
+    let t = tables::for_order(m);
+    let a = t.a;
+    let b = t.b;
+    let c = t.c;
+    let r = t.r;
+    let h_coeff = t.h_coeff;
+    let mut ends = [0.0; 6];
+    let mut side = [0.0; 3];
+    let mm = m * m;
+    let width = (m + 1) * (1 + 2 * m);
+    solve_general_thomas(
+        m,
+        n,
+        &a[0..mm],
+        &b[0..mm],
+        &c[0..mm],
+        &r[0..m * 2],
+        &h_coeff[0..width],
+        axes,
+        waypoints,
+        inv_ds,
+        start_state,
+        start,
+        end_state,
+        end,
+        entries,
+        rows,
+        solved_c,
+        &mut ends[0..m + m],
+        &mut side[0..m],
+        solved,
+        coeffs,
+    )
+}
+
+// Two points have no inner node, and need no lists for any.
+fn fill_short(
+    m: usize,
+    axes: usize,
+    waypoints: &[f64],
+    inv_ds: f64,
+    start_state: BoundaryState,
+    start: &[f64],
+    end_state: BoundaryState,
+    end: &[f64],
+    coeffs: &mut [f64],
+) -> bool
+    requires { ⌜ Fillable m 0 axes (now waypoints) «start_state» (now start) «end_state» (now end) (now coeffs) ⌝ }
+    ensures { λ ok. ⌜ (ok ≡ everyNode m 0) × (now (coeffs .exit) ≡ cond ok (joined axes (axisTable m 0 axes (now (waypoints .entry)) «inv_ds» «start_state» (now (start .entry)) «end_state» (now (end .entry)))) (now (coeffs .entry))) ⌝ }
+{
+    let mut entries = [0.0; 1];
+    let mut rows = [0; 1];
+    let mut solved_c = [0.0; 1];
+    let mut solved = [0.0; 1];
+    factor_and_fill(
+        m,
+        0,
+        axes,
+        waypoints,
+        inv_ds,
+        start_state,
+        start,
+        end_state,
+        end,
+        &mut entries,
+        &mut rows,
+        &mut solved_c,
+        &mut solved,
+        coeffs,
+    )
+}
+
+// "Lists per node: fixed arrays for 255 nodes."
+fn fill_long(
+    m: usize,
+    n: usize,
+    axes: usize,
+    waypoints: &[f64],
+    inv_ds: f64,
+    start_state: BoundaryState,
+    start: &[f64],
+    end_state: BoundaryState,
+    end: &[f64],
+    coeffs: &mut [f64],
+) -> bool
+    requires { ⌜ Fillable m n axes (now waypoints) «start_state» (now start) «end_state» (now end) (now coeffs) × (n ≤ 255) ⌝ }
+    ensures { λ ok. ⌜ (ok ≡ everyNode m n) × (now (coeffs .exit) ≡ cond ok (joined axes (axisTable m n axes (now (waypoints .entry)) «inv_ds» «start_state» (now (start .entry)) «end_state» (now (end .entry)))) (now (coeffs .entry))) ⌝ }
+{
+    let mut entries = [0.0; 2295];
+    let mut rows = [0; 765];
+    let mut solved_c = [0.0; 2295];
+    let mut solved = [0.0; 765];
+    factor_and_fill(
+        m,
+        n,
+        axes,
+        waypoints,
+        inv_ds,
+        start_state,
+        start,
+        end_state,
+        end,
+        &mut entries,
+        &mut rows,
+        &mut solved_c,
+        &mut solved,
+        coeffs,
+    )
+}
+
+// With or without lists for inner nodes.
+fn fill(
+    m: usize,
+    n: usize,
+    axes: usize,
+    waypoints: &[f64],
+    inv_ds: f64,
+    start_state: BoundaryState,
+    start: &[f64],
+    end_state: BoundaryState,
+    end: &[f64],
+    coeffs: &mut [f64],
+) -> bool
+    requires { ⌜ Fillable m n axes (now waypoints) «start_state» (now start) «end_state» (now end) (now coeffs) × (n ≤ 255) ⌝ }
+    ensures { λ ok. ⌜ (ok ≡ everyNode m n) × (now (coeffs .exit) ≡ cond ok (joined axes (axisTable m n axes (now (waypoints .entry)) «inv_ds» «start_state» (now (start .entry)) «end_state» (now (end .entry)))) (now (coeffs .entry))) ⌝ }
+{
+    if n == 0 {
+        return fill_short(
+            m,
+            axes,
+            waypoints,
+            inv_ds,
+            start_state,
+            start,
+            end_state,
+            end,
+            coeffs,
+        );
+    }
+    fill_long(
+        m,
+        n,
+        axes,
+        waypoints,
+        inv_ds,
+        start_state,
+        start,
+        end_state,
+        end,
+        coeffs,
+    )
+}
+
+// "A refusal returns its number and the all-zero record with mode Error".
+fn refused(number: u32) -> BuildAnswer
+    ensures { λ r. ⌜ r ≡ record { number = number; path = refusedRecord } ⌝ }
+{
+    BuildAnswer {
+        number,
+        path: PathRecord {
+            order: 0,
+            segments: 0,
+            axes: 0,
+            s_min: PathParam(0.0),
+            s_max: PathParam(0.0),
+            inv_ds: 0.0,
+            mode: OutOfRangeMode::Error,
+        },
+    }
+}
+
+// The build. Every call is answered: 0 with the path's record, and the buffer holds the coefficients, by axis, then
+// segment, then power; or the number of the first question that says no, and the buffer is as it was.
+pub fn from_waypoints_view(
+    config: SplineConfig,
+    points: usize,
+    axes: usize,
+    waypoints: &[f64],
+    start: &[f64],
+    end: &[f64],
+    coeffs: &mut [f64],
+) -> BuildAnswer
+    ensures { λ r. ⌜ (r ≡ buildAnswer (inputOf config points axes (now (waypoints .entry)) (now (start .entry)) (now (end .entry))) (length (now (coeffs .entry)))) × (now (coeffs .exit) ≡ bufferAfter (inputOf config points axes (now (waypoints .entry)) (now (start .entry)) (now (end .entry))) (now (coeffs .entry))) ⌝ }
+{
+    let number = questions::build_questions(
+        config,
+        points,
+        axes,
+        waypoints,
+        start,
+        end,
+        coeffs.len(),
+    );
+    if number != 0 {
+        return refused(number);
+    }
+    let order = config.order;
+    let s_min = config.s_min;
+    let s_max = config.s_max;
+    let mode = config.out_of_range_mode;
+    let start_state = config.start_state;
+    let end_state = config.end_state;
+    let m = (order - 1) / 2;
+    let inv_ds = questions::inv_ds(points - 1, s_min, s_max);
+    let ok = fill(
+        m,
+        points - 2,
+        axes,
+        waypoints,
+        inv_ds,
+        start_state,
+        start,
+        end_state,
+        end,
+        coeffs,
+    );
+    if !ok {
+        return refused(307);
+    }
+    BuildAnswer {
+        number: 0,
+        path: PathRecord {
+            order,
+            segments: points - 1,
+            axes,
+            s_min,
+            s_max,
+            inv_ds,
+            mode,
+        },
+    }
+}
