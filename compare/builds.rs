@@ -14,7 +14,7 @@
 use input::diag::PathError;
 use input::{diag, path, Build, State, NOT_FINITE};
 use random::Random;
-use spline::{coefficients, inv_ds};
+use spline::{coefficients, inv_ds, SplinePath};
 use std::collections::BTreeMap;
 use std::hint::black_box;
 use std::time::Instant;
@@ -337,7 +337,8 @@ fn time() {
                 let mut cells = vec![0.0; b.cells];
                 let mut quotient = 0.0;
                 let here = best(|| assert_eq!(ours(black_box(&b), &mut cells, &mut quotient), 0));
-                let there = best(|| drop(black_box(black_box(&b).path())));
+                let (waypoints, config) = b.in_rust();
+                let there = best(|| drop(black_box(SplinePath::from_waypoints(black_box(&waypoints), &config))));
                 let each = (points * axes) as f64;
                 println!("{order:5} {points:6} {axes:4} {here:11.0} {:17.1} {there:11.0} {:17.1}", here / each, there / each);
             }

@@ -184,8 +184,9 @@ impl Build {
             (finite(&self.waypoints) && self.start.is_finite() && self.end.is_finite(), 4),
         ])
     }
-    /// What the Rust text makes of it. Lists that do not match their own rows and columns it cannot be given.
-    pub fn path(&self) -> Result<SplinePath, PathError> {
+    /// The waypoints and the rest as the Rust takes them. Lists that do not match their own rows and columns it
+    /// cannot be given.
+    pub fn in_rust(&self) -> (DMatrix<f64>, SplineConfig) {
         let inv_ds = range(self.points.saturating_sub(1), self.s_min, self.s_max).unwrap_or(1.0);
         let config = SplineConfig {
             order: self.order,
@@ -196,6 +197,11 @@ impl Build {
             end_state: self.end.in_rust(inv_ds),
             ..SplineConfig::default()
         };
-        SplinePath::from_waypoints(&DMatrix::from_column_slice(self.axes, self.points, &self.waypoints), &config)
+        (DMatrix::from_column_slice(self.axes, self.points, &self.waypoints), config)
+    }
+    /// What the Rust text makes of it.
+    pub fn path(&self) -> Result<SplinePath, PathError> {
+        let (waypoints, config) = self.in_rust();
+        SplinePath::from_waypoints(&waypoints, &config)
     }
 }

@@ -121,6 +121,27 @@ fn refused(t: Tally, name: &[u8], expected: u32, c: Call) -> Tally {
     call::counted(t, as_expected(r, expected))
 }
 
+// The call that the others change is accepted, and writes its four cells.
+fn accepted(t: Tally) -> Tally {
+    let r = asked(served());
+    print::text(b"with nothing changed: ");
+    print::decimal(call::wide(r.number));
+    print::text(b", ");
+    print::decimal(r.changed);
+    print::text(b" cells changed\n");
+    call::counted(t, is_accepted(r))
+}
+
+fn is_accepted(r: Outcome) -> bool {
+    if r.number != 0 {
+        return false;
+    }
+    if r.blank {
+        return false;
+    }
+    r.changed == 4
+}
+
 // Is the order 3, 5 or 7? (Order 9 the Rust takes.)
 fn question_1(t: Tally) -> Tally {
     let mut c = served();
@@ -338,6 +359,7 @@ fn seventh_to_ninth(t: Tally) -> Tally {
 }
 
 pub fn all(t: Tally) -> Tally {
+    let t = accepted(t);
     let t = first_to_sixth(t);
     let t = seventh_to_ninth(t);
     let t = pairs_to_4(t);
