@@ -8,59 +8,18 @@
 //! Arguments: the seed, the number of trials of each kind, and proofs/Pieces.antt, whose `use`
 //! lines and whose list of definitions to compute with the module takes over.
 
-use nalgebra::DMatrix;
-use path::OutOfRangeMode;
+use input::{diag, first_no, is_order, path, range, Build, State};
 use random::Random;
-use spline::{coefficients, SplineConfig, SplinePath};
+use spline::coefficients;
 
-mod diag {
-    #[derive(Debug)]
-    #[allow(dead_code)]
-    pub enum PathError {
-        InvalidOrder { order: usize },
-        NotEnoughWaypoints { n: usize },
-        DimensionMismatch,
-        SingularSystem,
-    }
-}
-
+mod input;
 mod random;
-
-mod path {
-    #[derive(Clone, Copy, Debug)]
-    pub enum OutOfRangeMode {
-        Error,
-        Clamp,
-    }
-}
 
 // The text of src/path/spline.rs, unchanged, with one function after it that hands out the coefficients.
 #[allow(dead_code)]
 mod spline;
 
 impl Random {
-    fn one_in(&mut self, n: u64) -> bool {
-        self.below(n) == 0
-    }
-    fn pick<T: Copy>(&mut self, from: &[T]) -> T {
-        from[self.below(from.len() as u64) as usize]
-    }
-    /// From 0 up to 1.
-    fn unit(&mut self) -> f64 {
-        (self.bits() >> 11) as f64 / (1u64 << 53) as f64
-    }
-    /// A small whole number, a number with all its digits, a zero of either sign, or one far off in size.
-    fn coordinate(&mut self) -> f64 {
-        match self.below(10) {
-            0..=2 => self.below(41) as f64 - 20.0,
-            3..=7 => self.unit() * 200.0 - 100.0,
-            8 => self.pick(&[0.0, -0.0]),
-            _ => (self.unit() - 0.5) * 2f64.powi(self.below(120) as i32 - 60),
-        }
-    }
-    fn coordinates(&mut self, n: usize) -> Vec<f64> {
-        (0..n).map(|_| self.coordinate()).collect()
-    }
     /// A special float, any bits, or a coordinate.
     fn float(&mut self) -> f64 {
         match self.below(3) {
@@ -71,17 +30,7 @@ impl Random {
     }
 }
 
-const NOT_FINITE: [f64; 3] = [f64::NAN, f64::INFINITY, f64::NEG_INFINITY];
 const SPECIAL: [f64; 9] = [0.0, -0.0, 1.0, -1.0, 5e-324, f64::MAX, f64::NAN, f64::INFINITY, f64::NEG_INFINITY];
-
-/// Document 01's "the first no gives its number", and 0 where there is none.
-fn first_no(questions: &[(bool, u32)]) -> u32 {
-    questions.iter().find(|question| !question.0).map_or(0, |question| question.1)
-}
-
-fn is_order(order: usize) -> bool {
-    [3, 5, 7].contains(&order)
-}
 
 // ---- antt
 
@@ -116,142 +65,18 @@ fn mode(clamp: bool) -> &'static str {
 
 // ---- builds
 
-/// None, or rows, columns and the mark, with the numbers.
-#[derive(Clone)]
-struct State {
-    given: Option<(usize, usize, bool)>,
-    numbers: Vec<f64>,
-}
-
 impl State {
-    fn random(random: &mut Random, axes: usize, m: usize) -> State {
-        if random.one_in(3) {
-            let numbers = random.pick(&[0, 2]);
-            return State { given: None, numbers: vec![f64::NAN; numbers] };
-        }
-        let marked = random.one_in(2);
-        State { given: Some((axes, m, marked)), numbers: random.coordinates(axes * m) }
-    }
     fn text(&self) -> String {
         self.given.map_or("None".to_string(), |(rows, columns, marked)| format!("Given {rows} {columns} {marked}"))
     }
-    fn fits(&self, axes: usize, m: usize) -> bool {
-        self.given.is_none_or(|(rows, columns, _)| rows == axes && columns == m && self.numbers.len() == axes * m)
-    }
-    fn is_finite(&self) -> bool {
-        self.given.is_none() || self.numbers.iter().all(|x| x.is_finite())
-    }
-    /// As the Rust is given it: a marked state's divisions done.
-    fn in_rust(&self, inv_ds: f64) -> Option<DMatrix<f64>> {
-        self.given.map(|(rows, columns, marked)| {
-            let divided = |at: usize| (0..=at / rows).fold(self.numbers[at], |x, _| x / inv_ds);
-            let number = |at: usize| if marked { divided(at) } else { self.numbers[at] };
-            let cells: Vec<f64> = (0..rows * columns).map(number).collect();
-            DMatrix::from_column_slice(rows, columns, &cells)
-        })
-    }
-}
-
-#[derive(Clone)]
-struct Build {
-    order: usize,
-    points: usize,
-    axes: usize,
-    waypoints: Vec<f64>,
-    start: State,
-    end: State,
-    s_min: f64,
-    s_max: f64,
-    clamp: bool,
-    cells: usize,
-}
-
-/// Question 8 of document 01, and the quotient that it asks about.
-fn range(segments: usize, s_min: f64, s_max: f64) -> Option<f64> {
-    let inv_ds = segments as f64 / (s_max - s_min);
-    let served = s_min.is_finite() && s_max.is_finite() && s_min < s_max && inv_ds.is_finite() && inv_ds > 0.0;
-    served.then_some(inv_ds)
 }
 
 impl Build {
-    fn random(random: &mut Random, axes: usize) -> Build {
+    /// Of a size that antt computes in no time.
+    fn small(random: &mut Random, axes: usize) -> Build {
         let order = random.pick(&[3, 5, 7]);
-        let m = (order - 1) / 2;
         let points = 2 + random.below(5) as usize;
-        let low = random.coordinate();
-        let high = low + random.coordinate().abs() + random.pick(&[0.5, 1.0, 3.0]);
-        // a low end so great that the range vanishes beside it is no range
-        let (s_min, s_max) = if low < high { (low, high) } else { (0.0, 1.0) };
-        Build {
-            order,
-            points,
-            axes,
-            waypoints: random.coordinates(axes * points),
-            start: State::random(random, axes, m),
-            end: State::random(random, axes, m),
-            s_min,
-            s_max,
-            clamp: random.one_in(2),
-            cells: axes * (points - 1) * (order + 1),
-        }
-    }
-    const DAMAGES: usize = 35;
-    fn damage(&mut self, which: usize) {
-        let (axes, m) = (self.axes, self.order / 2);
-        let given = |rows: usize, columns: usize, numbers: Vec<f64>| State { given: Some((rows, columns, false)), numbers };
-        match which {
-            0..=6 => self.order = [0, 1, 2, 4, 6, 8, 9][which],
-            7..=10 => self.points = [0, 1, 258, 300][which - 7],
-            11 | 12 => self.axes = [0, 9][which - 11],
-            13 => drop(self.waypoints.pop()),
-            14 => self.waypoints.push(0.0),
-            15 => self.start = given(axes + 1, m, vec![0.0; (axes + 1) * m]),
-            16 => self.start = given(axes, m + 1, vec![0.0; axes * (m + 1)]),
-            17 => self.start = given(axes, m, vec![0.0; axes * m + 1]),
-            18 => self.end = given(axes + 1, m, vec![0.0; axes * m]),
-            19 => self.end = given(axes, m + 1, vec![0.0; axes * m]),
-            20 => self.end = given(axes, m, vec![]),
-            21 => self.cells += 1,
-            22 => self.cells -= 1,
-            23..=29 => {
-                let (nan, inf) = (f64::NAN, f64::INFINITY);
-                let bad = [(1.0, 1.0), (2.0, 1.0), (nan, 1.0), (0.0, inf), (-inf, 0.0), (f64::MIN, f64::MAX), (0.0, 5e-324)];
-                (self.s_min, self.s_max) = bad[which - 23];
-            }
-            30..=32 => *self.waypoints.last_mut().unwrap() = NOT_FINITE[which - 30],
-            33 => self.start = given(axes, m, vec![f64::NAN; axes * m]),
-            _ => self.end = given(axes, m, vec![f64::INFINITY; axes * m]),
-        }
-    }
-    /// The questions of document 01 but the tenth, in its order.
-    fn number(&self) -> u32 {
-        let (m, segments) = (self.order / 2, self.points.saturating_sub(1));
-        let finite = |xs: &[f64]| xs.iter().all(|x| x.is_finite());
-        first_no(&[
-            (is_order(self.order), 302),
-            (self.points >= 2, 304),
-            (self.points <= 257, 2),
-            ((1..=8).contains(&self.axes), 300),
-            (self.waypoints.len() == self.axes * self.points, 3),
-            (self.start.fits(self.axes, m), 303),
-            (self.end.fits(self.axes, m), 303),
-            (self.cells == self.axes * segments * (self.order + 1), 2),
-            (range(segments, self.s_min, self.s_max).is_some(), 301),
-            (finite(&self.waypoints) && self.start.is_finite() && self.end.is_finite(), 4),
-        ])
-    }
-    fn path(&self) -> SplinePath {
-        let inv_ds = range(self.points - 1, self.s_min, self.s_max).unwrap();
-        let config = SplineConfig {
-            order: self.order,
-            s_min: self.s_min,
-            s_max: self.s_max,
-            out_of_range_mode: if self.clamp { OutOfRangeMode::Clamp } else { OutOfRangeMode::Error },
-            start_state: self.start.in_rust(inv_ds),
-            end_state: self.end.in_rust(inv_ds),
-            ..SplineConfig::default()
-        };
-        SplinePath::from_waypoints(&DMatrix::from_column_slice(self.axes, self.points, &self.waypoints), &config).unwrap()
+        Build::random(random, order, points, axes)
     }
     fn text(&self) -> String {
         format!(
@@ -274,13 +99,13 @@ impl Build {
 
 fn build(random: &mut Random, _: usize) -> String {
     let axes = 1 + random.below(3) as usize;
-    let b = Build::random(random, axes);
-    format!("holds (built {} {})", b.text(), list(coefficients(&b.path()), float))
+    let b = Build::small(random, axes);
+    format!("holds (built {} {})", b.text(), list(coefficients(&b.path().unwrap()), float))
 }
 
 fn refused_build(random: &mut Random, trial: usize) -> String {
     let axes = 1 + random.below(3) as usize;
-    let mut b = Build::random(random, axes);
+    let mut b = Build::small(random, axes);
     b.damage(trial % Build::DAMAGES);
     if trial >= Build::DAMAGES {
         b.damage(random.below(Build::DAMAGES as u64) as usize);
@@ -291,7 +116,7 @@ fn refused_build(random: &mut Random, trial: usize) -> String {
 // ---- queries
 
 fn query(random: &mut Random, _: usize) -> String {
-    let b = Build::random(random, 1);
+    let b = Build::small(random, 1);
     let (lo, hi) = (b.s_min, b.s_max);
     let within = lo + random.unit() * (hi - lo);
     let inside = random.pick(&[lo, hi, within, within, within, within]).clamp(lo, hi);
@@ -299,7 +124,7 @@ fn query(random: &mut Random, _: usize) -> String {
     let s = if b.clamp && random.one_in(3) { outside } else { inside };
     let mut out = [[0.0]; 4];
     let [q, dq, ddq, dddq] = &mut out;
-    b.path().eval_at::<3>(s.clamp(lo, hi), 1, q, dq, ddq, dddq);
+    b.path().unwrap().eval_at::<3>(s.clamp(lo, hi), 1, q, dq, ddq, dddq);
     format!("holds (queried {} ({}) {})", b.text(), float(s), list(&out.concat(), float))
 }
 
@@ -376,7 +201,7 @@ impl Query {
 
 fn refused_query(random: &mut Random, trial: usize) -> String {
     let axes = 1 + random.below(3) as usize;
-    let b = Build::random(random, axes);
+    let b = Build::small(random, axes);
     let mut q = Query {
         order: b.order,
         segments: b.points - 1,

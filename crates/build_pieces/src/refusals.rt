@@ -1,0 +1,368 @@
+// A refused call for each question before a build, and for each two neighbouring questions one where
+// both say no: the first one's number has to come. All expected numbers are document 01's, "Questions
+// before a build". Question 10 cannot be made to say no from outside: the matrices depend on the order
+// and the node's place alone, and their pivots are other than zero. Each time the buffer holds a pattern
+// before, with cells on both sides that are not lent; afterwards every cell has to have the same bits.
+use crate::call;
+use crate::call::Tally;
+use crate::print;
+
+// One axis unless said otherwise. The first waypoint is 0 and the others are `waypoint`; the numbers of
+// a state are all alike. Lists of more than 32 numbers are cut there, a buffer of more than 48 cells too.
+struct Call {
+    order: usize,
+    points: usize,
+    axes: usize,
+    waypoints: usize,
+    waypoint: f64,
+    start_kind: u8,
+    start_rows: usize,
+    start_columns: usize,
+    start_numbers: usize,
+    start_number: f64,
+    end_kind: u8,
+    end_rows: usize,
+    end_columns: usize,
+    end_numbers: usize,
+    end_number: f64,
+    s_min: f64,
+    s_max: f64,
+    cells: usize,
+}
+
+// A call that is served: order 3, points 0 1, both states given as 2, range 0 to 1. Each call below is
+// this one with what its line names changed.
+fn served() -> Call {
+    Call {
+        order: 3,
+        points: 2,
+        axes: 1,
+        waypoints: 2,
+        waypoint: 1.0,
+        start_kind: 1,
+        start_rows: 1,
+        start_columns: 1,
+        start_numbers: 1,
+        start_number: 2.0,
+        end_kind: 1,
+        end_rows: 1,
+        end_columns: 1,
+        end_numbers: 1,
+        end_number: 2.0,
+        s_min: 0.0,
+        s_max: 1.0,
+        cells: 4,
+    }
+}
+
+struct Outcome {
+    number: u32,
+    blank: bool,
+    changed: u64,
+}
+
+fn changed(cells: &[f64; 64]) -> u64 {
+    call::changed(cells)
+}
+
+fn asked(c: Call) -> Outcome {
+    let start_state = call::state(c.start_kind, c.start_rows, c.start_columns);
+    let end_state = call::state(c.end_kind, c.end_rows, c.end_columns);
+    let config = call::config(c.order, c.s_min, c.s_max, start_state, end_state);
+    let mut waypoints = [c.waypoint; 32];
+    waypoints[0] = 0.0;
+    let start = [c.start_number; 32];
+    let end = [c.end_number; 32];
+    let given = call::least(c.waypoints, 32);
+    let starts = call::least(c.start_numbers, 32);
+    let ends = call::least(c.end_numbers, 32);
+    let n = call::least(c.cells, 48);
+    let mut cells = [0.0; 64];
+    call::fill(&mut cells, 0.5);
+    let answer = spline::from_waypoints_view(
+        config,
+        c.points,
+        c.axes,
+        &waypoints[0..given],
+        &start[0..starts],
+        &end[0..ends],
+        &mut cells[8..8 + n],
+    );
+    let path = answer.path;
+    Outcome {
+        number: answer.number,
+        blank: call::is_blank(path),
+        changed: changed(&cells),
+    }
+}
+
+fn as_expected(r: Outcome, expected: u32) -> bool {
+    if r.number != expected {
+        return false;
+    }
+    if !r.blank {
+        return false;
+    }
+    r.changed == 0
+}
+
+fn refused(t: Tally, name: &[u8], expected: u32, c: Call) -> Tally {
+    let r = asked(c);
+    print::text(name);
+    print::text(b": ");
+    print::decimal(call::wide(r.number));
+    print::text(b", ");
+    print::decimal(r.changed);
+    if r.blank {
+        print::text(b" cells changed, record zero\n");
+    } else {
+        print::text(b" cells changed, record not zero\n");
+    }
+    call::counted(t, as_expected(r, expected))
+}
+
+// The call that the others change is accepted, and writes its four cells.
+fn accepted(t: Tally) -> Tally {
+    let r = asked(served());
+    print::text(b"with nothing changed: ");
+    print::decimal(call::wide(r.number));
+    print::text(b", ");
+    print::decimal(r.changed);
+    print::text(b" cells changed\n");
+    call::counted(t, is_accepted(r))
+}
+
+fn is_accepted(r: Outcome) -> bool {
+    if r.number != 0 {
+        return false;
+    }
+    if r.blank {
+        return false;
+    }
+    r.changed == 4
+}
+
+// Is the order 3, 5 or 7? (Order 9 the Rust takes.)
+fn question_1(t: Tally) -> Tally {
+    let mut c = served();
+    c.order = 4;
+    let t = refused(t, b"1 order 4", 302, c);
+    c.order = 1;
+    let t = refused(t, b"1 order 1", 302, c);
+    c.order = 9;
+    let t = refused(t, b"1 order 9", 302, c);
+    c.order = 18446744073709551615;
+    refused(t, b"1 order 2^64-1", 302, c)
+}
+
+// Are there at least 2 points? At most 257? (258 points with a list and a buffer to match: piece o.)
+fn questions_2_and_3(t: Tally) -> Tally {
+    let mut c = served();
+    c.points = 1;
+    c.waypoints = 1;
+    c.cells = 0;
+    let t = refused(t, b"2 one point", 304, c);
+    c.points = 0;
+    c.waypoints = 0;
+    let t = refused(t, b"2 no points", 304, c);
+    c.points = 18446744073709551615;
+    refused(t, b"3 2^64-1 points", 2, c)
+}
+
+// 1 to 8 axes? The lists match the axes.
+fn question_4(t: Tally) -> Tally {
+    let mut c = served();
+    c.axes = 0;
+    c.waypoints = 0;
+    c.start_rows = 0;
+    c.start_numbers = 0;
+    c.end_rows = 0;
+    c.end_numbers = 0;
+    c.cells = 0;
+    let t = refused(t, b"4 no axes", 300, c);
+    c.axes = 9;
+    c.waypoints = 18;
+    c.start_rows = 9;
+    c.start_numbers = 9;
+    c.end_rows = 9;
+    c.end_numbers = 9;
+    c.cells = 36;
+    let t = refused(t, b"4 nine axes", 300, c);
+    c.axes = 18446744073709551615;
+    refused(t, b"4 2^64-1 axes", 300, c)
+}
+
+// Is the waypoint list axes x points long?
+fn question_5(t: Tally) -> Tally {
+    let mut c = served();
+    c.waypoints = 1;
+    let t = refused(t, b"5 a waypoint too few", 3, c);
+    c.waypoints = 3;
+    let t = refused(t, b"5 a waypoint too many", 3, c);
+    c.waypoints = 0;
+    refused(t, b"5 an empty waypoint list", 3, c)
+}
+
+// Is the start state none, or axes by m with that many numbers?
+fn question_6_start(t: Tally) -> Tally {
+    let mut c = served();
+    c.start_rows = 2;
+    let t = refused(t, b"6 start of 2 rows", 303, c);
+    c.start_rows = 1;
+    c.start_columns = 2;
+    let t = refused(t, b"6 start of 2 columns", 303, c);
+    c.start_columns = 1;
+    c.start_numbers = 2;
+    let t = refused(t, b"6 start of 2 numbers", 303, c);
+    c.start_numbers = 0;
+    let t = refused(t, b"6 start of no numbers", 303, c);
+    c.start_kind = 2;
+    refused(t, b"6 start per unit of s of no numbers", 303, c)
+}
+
+// The end state likewise.
+fn question_6_end(t: Tally) -> Tally {
+    let mut c = served();
+    c.end_rows = 2;
+    let t = refused(t, b"6 end of 2 rows", 303, c);
+    c.end_rows = 1;
+    c.end_columns = 2;
+    let t = refused(t, b"6 end of 2 columns", 303, c);
+    c.end_columns = 1;
+    c.end_numbers = 2;
+    let t = refused(t, b"6 end of 2 numbers", 303, c);
+    c.end_numbers = 0;
+    let t = refused(t, b"6 end of no numbers", 303, c);
+    c.end_kind = 2;
+    refused(t, b"6 end per unit of s of no numbers", 303, c)
+}
+
+// Is the coefficient buffer exactly axes x segments x (order + 1) long?
+fn question_7(t: Tally) -> Tally {
+    let mut c = served();
+    c.cells = 3;
+    let t = refused(t, b"7 a cell too few", 2, c);
+    c.cells = 5;
+    let t = refused(t, b"7 a cell too many", 2, c);
+    c.cells = 0;
+    refused(t, b"7 an empty buffer", 2, c)
+}
+
+// Are s_min and s_max finite, and s_min < s_max?
+fn question_8(t: Tally) -> Tally {
+    let mut c = served();
+    c.s_min = 0.0 / 0.0;
+    let t = refused(t, b"8 s_min NaN", 301, c);
+    c.s_min = -1.0 / 0.0;
+    let t = refused(t, b"8 s_min -infinity", 301, c);
+    c.s_min = 1.0;
+    let t = refused(t, b"8 s_min = s_max", 301, c);
+    c.s_min = 2.0;
+    let t = refused(t, b"8 s_min > s_max", 301, c);
+    c.s_max = 0.0 / 0.0;
+    let t = refused(t, b"8 s_max NaN", 301, c);
+    c.s_max = 1.0 / 0.0;
+    refused(t, b"8 s_max infinity", 301, c)
+}
+
+// And is segments / (s_max - s_min) as computed finite and above 0? The greatest float less its negative
+// is infinite, so the quotient is 0; 1 by the least float above 0 is infinite.
+fn question_8_quotient(t: Tally) -> Tally {
+    let mut c = served();
+    c.s_min = -1.7976931348623157e308;
+    c.s_max = 1.7976931348623157e308;
+    let t = refused(t, b"8 quotient 0", 301, c);
+    c.s_min = 0.0;
+    c.s_max = 5e-324;
+    refused(t, b"8 quotient infinite", 301, c)
+}
+
+// Is every waypoint and given state number finite?
+fn question_9(t: Tally) -> Tally {
+    let mut c = served();
+    c.waypoint = 0.0 / 0.0;
+    let t = refused(t, b"9 waypoint NaN", 4, c);
+    c.waypoint = 1.0 / 0.0;
+    let t = refused(t, b"9 waypoint infinity", 4, c);
+    c.waypoint = 1.0;
+    c.start_number = 0.0 / 0.0;
+    let t = refused(t, b"9 start NaN", 4, c);
+    c.start_number = -1.0 / 0.0;
+    let t = refused(t, b"9 start -infinity", 4, c);
+    c.start_number = 2.0;
+    c.end_number = 0.0 / 0.0;
+    let t = refused(t, b"9 end NaN", 4, c);
+    c.end_number = 1.0 / 0.0;
+    refused(t, b"9 end infinity", 4, c)
+}
+
+// Neighbouring questions that both say no. Questions 2 and 3 cannot: no number of points is both below 2
+// and above 257. So each of them stands with 4 here.
+fn pairs_to_4(t: Tally) -> Tally {
+    let mut c = served();
+    c.order = 4;
+    c.points = 1;
+    let t = refused(t, b"1 and 2", 302, c);
+    c.points = 258;
+    let t = refused(t, b"1 and 3", 302, c);
+    c.order = 3;
+    c.axes = 9;
+    let t = refused(t, b"3 and 4", 2, c);
+    c.points = 1;
+    let t = refused(t, b"2 and 4", 304, c);
+    c.points = 2;
+    c.waypoints = 17;
+    refused(t, b"4 and 5", 300, c)
+}
+
+fn pairs_to_7(t: Tally) -> Tally {
+    let mut c = served();
+    c.waypoints = 3;
+    c.start_rows = 2;
+    let t = refused(t, b"5 and 6 of the start", 3, c);
+    c.waypoints = 2;
+    c.end_rows = 2;
+    let t = refused(t, b"6 of both", 303, c);
+    c.start_rows = 1;
+    c.cells = 5;
+    refused(t, b"6 of the end and 7", 303, c)
+}
+
+fn pairs_to_9(t: Tally) -> Tally {
+    let mut c = served();
+    c.cells = 5;
+    c.s_max = 0.0;
+    let t = refused(t, b"7 and 8", 2, c);
+    c.cells = 4;
+    c.waypoint = 0.0 / 0.0;
+    let t = refused(t, b"8 and 9", 301, c);
+    c.s_max = 1.0;
+    c.start_number = 0.0 / 0.0;
+    c.end_number = 0.0 / 0.0;
+    refused(t, b"9 of all three", 4, c)
+}
+
+fn first_to_sixth(t: Tally) -> Tally {
+    let t = question_1(t);
+    let t = questions_2_and_3(t);
+    let t = question_4(t);
+    let t = question_5(t);
+    let t = question_6_start(t);
+    question_6_end(t)
+}
+
+fn seventh_to_ninth(t: Tally) -> Tally {
+    let t = question_7(t);
+    let t = question_8(t);
+    let t = question_8_quotient(t);
+    question_9(t)
+}
+
+pub fn all(t: Tally) -> Tally {
+    let t = accepted(t);
+    let t = first_to_sixth(t);
+    let t = seventh_to_ninth(t);
+    let t = pairs_to_4(t);
+    let t = pairs_to_7(t);
+    pairs_to_9(t)
+}
