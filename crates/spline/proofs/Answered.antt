@@ -19,8 +19,8 @@ use Rattle.rules.specs.Build.{BuildInput, validAxes, validState, buildQuestions
 use Rattle.rules.proofs.Questions.{answerAt, said-yes}
 use Rattle.rules.proofs.Build.{by-order, coefficient-count}
 use Rattle.rules.proofs.Filling.{joined-ext}
-use Rattle.spline.specs.Kept.{HasNumbers}
-use Rattle.spline.specs.Axis.{axisPoints, axisTable, Fillable}
+use Rattle.thomas.specs.Kept.{HasNumbers}
+use Rattle.thomas.specs.Axis.{axisPoints, axisTable, Fillable}
 
 has-numbers : (axes m : ℕ) (state : BoundaryState) (numbers : List Float) → T (validState axes m state numbers) → HasNumbers axes m state numbers
 unfolding validState

@@ -1,11 +1,1 @@
-pub mod Back
-pub mod Nodes
-pub mod States
-pub mod Upper
-pub mod Segments
-pub mod Sides
-pub mod Parts
-pub mod Node
-pub mod Sizes
-pub mod Matrices
 pub mod Answered

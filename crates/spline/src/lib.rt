@@ -7,19 +7,14 @@ ghost use Rattle.rules.specs.Lists.{joined};
 ghost use Rattle.rules.specs.Build.{refusedRecord, buildAnswer, bufferAfter};
 ghost use Rattle.block.specs.Kept.{Room};
 ghost use Rattle.questions.specs.Input.{inputOf};
-ghost use Rattle.spline.specs.Kept.{Matrices};
-ghost use Rattle.spline.specs.Axis.{Shared, Fillable, axisTable, everyNode};
+ghost use Rattle.thomas.specs.Kept.{Matrices};
+ghost use Rattle.thomas.specs.Axis.{Shared, Fillable, axisTable, everyNode};
 use rules::BoundaryState;
 use rules::BuildAnswer;
 use rules::OutOfRangeMode;
 use rules::PathParam;
 use rules::PathRecord;
 use rules::SplineConfig;
-
-mod boundary;
-mod row;
-mod segment;
-mod tables;
 
 // One axis: the numbers of its first and last node, then its coefficients.
 fn fill_axis(
@@ -48,7 +43,7 @@ fn fill_axis(
     requires { ⌜ Shared m n (now r) (now a) (now c) (now «h_coeff») (now entries) (now rows) (now «solved_c») axes (now waypoints) «start_state» (now start) «end_state» (now end) × (axis < axes) × (length (now ends) ≡ m + m) × (length (now side) ≡ m) × (n * m ≤ length (now solved)) × (length (now chunk) ≡ (n + 1) * (2 * m + 2)) ⌝ }
     ensures { λ x. ⌜ now (chunk .exit) ≡ axisTable m n axes (now (waypoints .entry)) «inv_ds» «start_state» (now (start .entry)) «end_state» (now (end .entry)) axis ⌝ }
 {
-    boundary::both_ends(
+    thomas::boundary::both_ends(
         m,
         axes,
         inv_ds,
@@ -59,7 +54,7 @@ fn fill_axis(
         axis,
         ends,
     );
-    row::thomas_row(
+    thomas::row::thomas_row(
         m,
         n,
         r,
@@ -212,7 +207,7 @@ fn factor_and_fill(
     requires { ⌜ Fillable m n axes (now waypoints) «start_state» (now start) «end_state» (now end) (now coeffs) × Room m n (now entries) (now rows) (now «solved_c») × (n * m ≤ length (now solved)) ⌝ }
     ensures { λ ok. ⌜ (ok ≡ everyNode m n) × (now (coeffs .exit) ≡ cond ok (joined axes (axisTable m n axes (now (waypoints .entry)) «inv_ds» «start_state» (now (start .entry)) «end_state» (now (end .entry)))) (now (coeffs .entry))) ⌝ }
 {
-    let t = tables::for_order(m);
+    let t = thomas::tables::for_order(m);
     let a = t.a;
     let b = t.b;
     let c = t.c;

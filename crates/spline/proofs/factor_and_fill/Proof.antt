@@ -3,12 +3,12 @@ use mathlib.Core.List.{List}
 use Prim.Native.Nat.{_+_, _≤_}
 use native.Mathlib.Omega.{arith}
 use lib.Ieee.{Float}
-use Rattle.spline.proofs.Matrices.{a-room, b-room, c-room, r-room, h-room, lent}
-use Rattle.spline.proofs.Parts.{start-length}
-use Rattle.spline.proofs.Sizes.{matrix-small, upper-small}
+use Rattle.thomas.proofs.Matrices.{a-room, b-room, c-room, r-room, h-room, lent}
+use Rattle.thomas.proofs.Parts.{start-length}
+use Rattle.thomas.proofs.Sizes.{matrix-small, upper-small}
 use borrow.Author.Needs.{needs}
 use native.Mathlib.Omega.{arith}
-use Rattle.spline.proofs.Sizes.{matrix-small, upper-small}
+use Rattle.thomas.proofs.Sizes.{matrix-small, upper-small}
 use Rattle.spline.proofs.factor_and_fill.Statement.{statement}
 use Rattle.spline.proofs.factor_and_fill.Tie as tie
 

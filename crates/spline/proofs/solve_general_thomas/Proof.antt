@@ -2,8 +2,8 @@
 use mathlib.Core.Path.{refl, sym, _∙_}
 use native.Mathlib.Omega.{arith}
 use borrow.Author.Tests.{not-true, not-false}
-use Rattle.spline.proofs.Node.{node-factors, node-solved}
-use Rattle.spline.proofs.Matrices.{side-tables, upper-table}
+use Rattle.thomas.proofs.Node.{node-factors, node-solved}
+use Rattle.thomas.proofs.Matrices.{side-tables, upper-table}
 use borrow.Author.Needs.{needs}
 use Rattle.spline.proofs.solve_general_thomas.Statement.{statement}
 use Rattle.spline.proofs.solve_general_thomas.Tie as tie

@@ -1,0 +1,10 @@
+pub mod Back
+pub mod Matrices
+pub mod Node
+pub mod Nodes
+pub mod Parts
+pub mod Segments
+pub mod Sides
+pub mod Sizes
+pub mod States
+pub mod Upper

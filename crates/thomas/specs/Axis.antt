@@ -1,0 +1,110 @@
+-- What the functions of one axis are lent. Assumes nothing.
+use mathlib.Core.Path.{_≡_}
+use Prim.Native.Nat.{ℕ, zero, suc, _+_, _-_, _*_, _<_, _≤_}
+use mathlib.Core.Bool.{Bool, cond}
+use mathlib.Core.List.{List, _++_}
+use lib.ListN.{length, take, drop}
+use lib.Dec.{ltb}
+use lib.Ieee.{Float}
+use Rattle.rules.specs.Floats.{_!_}
+use Rattle.rules.specs.Lists.{listed, every}
+use Rattle.rules.specs.Tables.{A, C, R}
+use Rattle.rules.specs.Solve.{times, minus, nonzeroPivots, nodeFactors, solvedC}
+use Rattle.rules.specs.Build.{dy, segmentCoefficients, boundedSide, solvedSide, axisCoefficients, boundaryNumber}
+use Rattle.rules.specs.declared.BoundaryState.{BoundaryState}
+use Rattle.block.specs.Kept.{transposed}
+use Rattle.thomas.specs.Kept.{UpperTable, HasNumbers}
+
+-- an axis's waypoints, of a list that is column-major, axes by points
+unfoldable pub axisPoints : ℕ → ℕ → List Float → ℕ → List Float
+axisPoints points axes waypoints axis = listed points (λ p. waypoints ! (p * axes + axis))
+
+pub record AxisOf (points axes axis : ℕ) (waypoints : List Float) : Type 0 where
+  pub axis-below : axis < axes
+  pub waypoints-length : length waypoints ≡ points * axes
+
+-- the tables that a right side is made with: A and C by columns
+pub record SideTables (m : ℕ) (r a c : List Float) : Type 0 where
+  pub r-is : r ≡ R m
+  pub r-length : length r ≡ m * 2
+  pub a-is : a ≡ transposed m (A m)
+  pub a-length : length (A m) ≡ m * m
+  pub c-is : c ≡ transposed m (C m)
+  pub c-length : length (C m) ≡ m * m
+  pub some : 1 ≤ m
+
+-- of n inner nodes, one after the other: the factored matrices and their rows
+pub record NodeFactors (m n : ℕ) (entries : List Float) (rows : List ℕ) : Type 0 where
+  pub entries-at : (i : ℕ) → i < n → take (m * m) (drop (i * (m * m)) entries) ≡ nodeFactors m i .entries
+  pub entries-length : n * (m * m) ≤ length entries
+  pub rows-at : (i : ℕ) → i < n → take m (drop (i * m) rows) ≡ nodeFactors m i .rows
+  pub rows-length : n * m ≤ length rows
+
+-- those of one node
+pub record NodeAt (m i : ℕ) (entries : List Float) (rows : List ℕ) : Type 0 where
+  pub entries-is : take (m * m) (drop (i * (m * m)) entries) ≡ nodeFactors m i .entries
+  pub entries-inside : i * (m * m) + m * m ≤ length entries
+  pub rows-is : take m (drop (i * m) rows) ≡ nodeFactors m i .rows
+  pub rows-inside : i * m + m ≤ length rows
+
+-- and solved C by columns
+pub record NodeSolved (m n : ℕ) (solved : List Float) : Type 0 where
+  pub solved-at : (i : ℕ) → i < n → take (m * m) (drop (i * (m * m)) solved) ≡ transposed m (solvedC m i)
+  pub solved-length : n * (m * m) ≤ length solved
+
+-- the i-th m numbers of a list
+abbrev pub part : ℕ → List Float → ℕ → List Float
+part m xs i = take m (drop (i * m) xs)
+
+-- a list with the i-th m numbers replaced, as it comes back where that part was lent
+abbrev pub put : ℕ → ℕ → List Float → List Float → List Float
+put m i ys xs = take (i * m) xs ++ (ys ++ drop (i * m + m - i * m) (drop (i * m) xs))
+
+-- what is solved at an inner node
+abbrev pub fullSide : ℕ → ℕ → List Float → List Float → List Float → ℕ → List Float
+fullSide m n w start end i =
+    let side = boundedSide m n w start end i in
+    cond (ltb 0 i) (minus m side (times m (A m) (solvedSide m n w start end (i - 1)))) side
+
+-- the numbers of a node: of the first, of the last, and between
+unfoldable pub nodePart : ℕ → ℕ → List Float → List Float → ℕ → List Float
+nodePart m n boundary solved zero = take m boundary
+nodePart m n boundary solved (suc i) = cond (ltb i n) (take m (drop (i * m) solved)) (take m (drop m boundary))
+
+-- segment i's coefficients, with its nodes' numbers as they are kept
+abbrev pub segmentOf : ℕ → ℕ → List Float → List Float → List Float → ℕ → List Float
+segmentOf m n w boundary solved i = segmentCoefficients m (w ! i) (dy w i) (nodePart m n boundary solved i) (nodePart m n boundary solved (suc i))
+
+-- what all axes of a build share: the tables, the nodes' matrices, the waypoints, and both states with their numbers
+pub record Shared (m n : ℕ) (r a c h entries : List Float) (rows : List ℕ) (solvedC : List Float) (axes : ℕ) (waypoints : List Float)
+    (startState : BoundaryState) (start : List Float) (endState : BoundaryState) (end : List Float) : Type 0 where
+  pub few : m ≤ 3
+  pub few-nodes : n ≤ 255
+  pub few-axes : axes ≤ 8
+  pub side : SideTables m r a c
+  pub upper : UpperTable m h
+  pub factors : NodeFactors m n entries rows
+  pub solved : NodeSolved m n solvedC
+  pub waypoints-length : length waypoints ≡ (n + 2) * axes
+  pub start-numbers : HasNumbers axes m startState start
+  pub end-numbers : HasNumbers axes m endState end
+
+-- an axis's coefficients
+abbrev pub axisTable : ℕ → ℕ → ℕ → List Float → Float → BoundaryState → List Float → BoundaryState → List Float → ℕ → List Float
+axisTable m n axes waypoints inv startState start endState end axis =
+    axisCoefficients m n (axisPoints (n + 2) axes waypoints axis) (listed m (boundaryNumber axes inv startState start axis)) (listed m (boundaryNumber axes inv endState end axis))
+
+-- no pivot of n inner nodes is zero
+abbrev pub everyNode : ℕ → ℕ → Bool
+everyNode m n = every n (λ i. nonzeroPivots m (nodeFactors m i))
+
+-- what the questions before a build have shown
+pub record Fillable (m n axes : ℕ) (waypoints : List Float) (startState : BoundaryState) (start : List Float) (endState : BoundaryState) (end coeffs : List Float) : Type 0 where
+  pub some : 1 ≤ m
+  pub few : m ≤ 3
+  pub few-nodes : n ≤ 255
+  pub few-axes : axes ≤ 8
+  pub waypoints-length : length waypoints ≡ (n + 2) * axes
+  pub start-numbers : HasNumbers axes m startState start
+  pub end-numbers : HasNumbers axes m endState end
+  pub coeffs-length : length coeffs ≡ axes * ((n + 1) * (2 * m + 2))
