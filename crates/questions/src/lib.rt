@@ -172,5 +172,5 @@ pub fn build_questions(
     if !finite_state(end_state, end) {
         return 4; // question 9, of the end
     }
-    0
+    0 // every question says yes
 }

@@ -46,7 +46,7 @@ add-dot c = omega (arith, row c)
 dot-requires : tie.Need-dot-requires Inv-loop μ-loop
 dot-requires c κs =
     let pre = begun (c .before) .pre in
-    (pre .0 .some, omega (arith, row c), pre .1)
+    (pre .0 .some, omega (arith, row c), search needs)
 
 add-dot-2 : tie.Need-add-dot-2 Inv-loop μ-loop
 add-dot-2 c = omega (arith, row (c .before))
