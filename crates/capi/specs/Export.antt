@@ -1,0 +1,33 @@
+-- What the numbers that a caller hands over stand for. Assumes nothing.
+use Prim.Native.Nat.{ℕ}
+use mathlib.Core.Bool.{true, false, cond}
+use lib.Dec.{eqb}
+use lib.Ieee.{Float}
+use Rattle.rules.specs.declared.OutOfRangeMode.{OutOfRangeMode}
+use Rattle.rules.specs.declared.OutOfRangeMode.the-variants.{Error, Clamp}
+use Rattle.rules.specs.declared.BoundaryState.{BoundaryState}
+use Rattle.rules.specs.declared.BoundaryState.the-variants.{None, Given}
+use Rattle.rules.specs.declared.SplineConfig.{SplineConfig}
+
+-- A state by its kind: 0 is none, 1 is given, 2 is given per unit of s. Any other kind is a state with more rows than any axes, which no shape fits.
+unfoldable pub stateOf : ℕ → ℕ → ℕ → BoundaryState
+stateOf kind rows columns =
+    cond (eqb kind 0) None
+    (cond (eqb kind 1) (Given rows columns false)
+    (cond (eqb kind 2) (Given rows columns true)
+    (Given 18446744073709551615 columns false)))
+
+-- 1 is Clamp, and any other number is Error.
+unfoldable pub modeOf : ℕ → OutOfRangeMode
+modeOf mode = cond (eqb mode 1) Clamp Error
+
+-- order, s_min, s_max, mode, and the two states
+abbrev pub configOf : ℕ → Float → Float → ℕ → BoundaryState → BoundaryState → SplineConfig
+configOf order lo hi mode start end = record {
+  order = order;
+  «s_min» = record { 0 = lo };
+  «s_max» = record { 0 = hi };
+  «out_of_range_mode» = modeOf mode;
+  «start_state» = start;
+  «end_state» = end;
+}
