@@ -1,4 +1,5 @@
 // Text, whole numbers and floats to standard output.
+use crate::bits::bits_of;
 use libc::STDOUT_FILENO;
 
 pub fn text(words: &[u8]) {
@@ -7,14 +8,6 @@ pub fn text(words: &[u8]) {
 
 pub fn decimal(n: u64) {
     io::print_decimal(STDOUT_FILENO, n);
-}
-
-// A float's bits; every NaN has those of the one that is written 7ff8000000000000.
-pub fn bits_of(x: f64) -> u64 {
-    if x != x {
-        return 0x7ff8_0000_0000_0000;
-    }
-    f64::to_bits(x)
 }
 
 pub fn hex(n: u64) {
@@ -61,4 +54,17 @@ pub fn numbers(list: &[f64]) {
         text(b" ");
         number(list[i]);
     }
+}
+
+// How a line starts: the call's name, and 0 or the refusal's number.
+pub fn answered(name: &[u8], number: u32) {
+    text(name);
+    text(b": ");
+    decimal(number as u64);
+    text(b", ");
+}
+
+pub fn cells_changed(n: u64) {
+    decimal(n);
+    text(b" cells changed");
 }
