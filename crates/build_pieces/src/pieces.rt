@@ -36,41 +36,40 @@ fn answered(name: &[u8], answer: BuildAnswer) {
     print::text(b",");
 }
 
-fn as_expected(
+fn judged(
+    t: Tally,
     answer: BuildAnswer,
+    unlike: u64,
     order: usize,
     segments: usize,
     axes: usize,
     s_max: f64,
     inv_ds: f64,
-    unlike: u64,
-) -> bool {
-    if answer.number != 0 {
-        return false;
-    }
-    if unlike != 0 {
-        return false;
-    }
-    let path = answer.path;
-    builds::is_record(path, order, segments, axes, 0.0, s_max, inv_ds)
+) -> Tally {
+    let served = builds::is_served(answer, unlike, order, segments, axes, s_max, inv_ds);
+    trials::counted(t, served)
 }
 
-// Prints the coefficients, and answers how many are not as wanted.
-fn four(cells: &[f64; 4], wanted: &[f64; 4]) -> u64 {
+// A line with all coefficients.
+fn shown(name: &[u8], answer: BuildAnswer, cells: &[f64]) {
+    answered(name, answer);
     print::numbers(cells);
     print::text(b"\n");
+}
+
+// Each prints its line, and answers how many coefficients are not as wanted.
+fn four(name: &[u8], answer: BuildAnswer, cells: &[f64; 4], wanted: &[f64; 4]) -> u64 {
+    shown(name, answer, cells);
     buffer::unlike(cells, wanted)
 }
 
-fn six(cells: &[f64; 6], wanted: &[f64; 6]) -> u64 {
-    print::numbers(cells);
-    print::text(b"\n");
+fn six(name: &[u8], answer: BuildAnswer, cells: &[f64; 6], wanted: &[f64; 6]) -> u64 {
+    shown(name, answer, cells);
     buffer::unlike(cells, wanted)
 }
 
-fn twenty_four(cells: &[f64; 24], wanted: &[f64; 24]) -> u64 {
-    print::numbers(cells);
-    print::text(b"\n");
+fn twenty_four(name: &[u8], answer: BuildAnswer, cells: &[f64; 24], wanted: &[f64; 24]) -> u64 {
+    shown(name, answer, cells);
     buffer::unlike(cells, wanted)
 }
 
@@ -91,9 +90,8 @@ fn piece_m(t: Tally) -> Tally {
         49.0,
         &mut cells,
     );
-    answered(b"m", answer);
-    let unlike = four(&cells, &[0.0, 0.0, 3.0, -2.0]);
-    trials::counted(t, as_expected(answer, 3, 1, 1, 49.0, 1.0 / 49.0, unlike))
+    let unlike = four(b"m", answer, &cells, &[0.0, 0.0, 3.0, -2.0]);
+    judged(t, answer, unlike, 3, 1, 1, 49.0, 1.0 / 49.0)
 }
 
 // Range 0 to 2, points 0 1, start 3 per unit of s: "coefficient 1 is 6". The last two by table H of
@@ -104,9 +102,8 @@ fn piece_n(t: Tally) -> Tally {
     let start = [3.0];
     let waypoints = [0.0, 1.0];
     let answer = built(3, 2, 1, &waypoints, 2, &start, 0, &nothing, 2.0, &mut cells);
-    answered(b"n", answer);
-    let unlike = four(&cells, &[0.0, 6.0, -9.0, 4.0]);
-    trials::counted(t, as_expected(answer, 3, 1, 1, 2.0, 0.5, unlike))
+    let unlike = four(b"n", answer, &cells, &[0.0, 6.0, -9.0, 4.0]);
+    judged(t, answer, unlike, 3, 1, 1, 2.0, 0.5)
 }
 
 // Order 5, two axes, three points, both states given. Axis one is piece f. Axis two has the points 0 0 0,
@@ -117,7 +114,6 @@ fn two_axes(t: Tally) -> Tally {
     let start = [0.0, 48.0, 0.0, 0.0];
     let end = [0.0, 0.0, 0.0, 24.0];
     let answer = built(5, 3, 2, &waypoints, 1, &start, 1, &end, 1.0, &mut cells);
-    answered(b"two axes, order 5", answer);
     let wanted = [
         0.0,
         0.0,
@@ -144,8 +140,8 @@ fn two_axes(t: Tally) -> Tally {
         -84.0,
         42.0,
     ];
-    let unlike = twenty_four(&cells, &wanted);
-    trials::counted(t, as_expected(answer, 5, 2, 2, 1.0, 2.0, unlike))
+    let unlike = twenty_four(b"two axes, order 5", answer, &cells, &wanted);
+    judged(t, answer, unlike, 5, 2, 2, 1.0, 2.0)
 }
 
 // Order 5, range 0 to 4, so inv_ds is 1/4; start 3 5 per unit of s: the first is divided once and is 12,
@@ -156,9 +152,13 @@ fn per_unit_of_s(t: Tally) -> Tally {
     let start = [3.0, 5.0];
     let waypoints = [0.0, 1.0];
     let answer = built(5, 2, 1, &waypoints, 2, &start, 0, &nothing, 4.0, &mut cells);
-    answered(b"per unit of s, order 5", answer);
-    let unlike = six(&cells, &[0.0, 12.0, 80.0, -302.0, 321.0, -110.0]);
-    trials::counted(t, as_expected(answer, 5, 1, 1, 4.0, 0.25, unlike))
+    let unlike = six(
+        b"per unit of s, order 5",
+        answer,
+        &cells,
+        &[0.0, 12.0, 80.0, -302.0, 321.0, -110.0],
+    );
+    judged(t, answer, unlike, 5, 1, 1, 4.0, 0.25)
 }
 
 // A sum of the bits of the cells from a place on, up to another, that tells places apart: three times the sum
@@ -174,9 +174,8 @@ fn sum_of_bits(cells: &[f64], from: usize, to: usize) -> u64 {
 }
 
 // Coefficients 1 to 3 are these, and the bits of all eight have this sum.
-fn eight(cells: &[f64; 8], wanted: &[f64; 4], sum: u64) -> u64 {
-    print::numbers(cells);
-    print::text(b"\n");
+fn eight(name: &[u8], answer: BuildAnswer, cells: &[f64; 8], wanted: &[f64; 4], sum: u64) -> u64 {
+    shown(name, answer, cells);
     if sum_of_bits(cells, 0, 8) != sum {
         return 8;
     }
@@ -202,13 +201,18 @@ fn divided_in_turn(t: Tally) -> Tally {
         49.0,
         &mut cells,
     );
-    answered(b"divided in turn, order 7", answer);
     let inv_ds = 1.0 / 49.0;
     let once = 3.0 / inv_ds;
     let twice = once / inv_ds;
     let wanted = [0.0, once, twice, twice / inv_ds];
-    let unlike = eight(&cells, &wanted, 0x9356_f9ba_8000_016c);
-    trials::counted(t, as_expected(answer, 7, 1, 1, 49.0, inv_ds, unlike))
+    let unlike = eight(
+        b"divided in turn, order 7",
+        answer,
+        &cells,
+        &wanted,
+        0x9356_f9ba_8000_016c,
+    );
+    judged(t, answer, unlike, 7, 1, 1, 49.0, inv_ds)
 }
 
 // A state that is none has zeros, whatever stands in the list beside it. The coefficients are piece b's.
@@ -217,9 +221,13 @@ fn none_is_not_looked_at(t: Tally) -> Tally {
     let beside = [0.0 / 0.0; 3];
     let waypoints = [0.0, 1.0];
     let answer = built(5, 2, 1, &waypoints, 0, &beside, 0, &beside, 1.0, &mut cells);
-    answered(b"NaN beside none, order 5", answer);
-    let unlike = six(&cells, &[0.0, 0.0, 0.0, 10.0, -15.0, 6.0]);
-    trials::counted(t, as_expected(answer, 5, 1, 1, 1.0, 1.0, unlike))
+    let unlike = six(
+        b"NaN beside none, order 5",
+        answer,
+        &cells,
+        &[0.0, 0.0, 0.0, 10.0, -15.0, 6.0],
+    );
+    judged(t, answer, unlike, 5, 1, 1, 1.0, 1.0)
 }
 
 // The sum of the cells from a place on, up to another.
@@ -298,18 +306,15 @@ fn long(order: usize, points: usize, n: usize) -> Look {
     seen(answer, order, 8 + n, &cells)
 }
 
-fn long_as_expected(r: Look, order: usize, n: u64, sum: u64) -> bool {
+// How many of the three are not as wanted, at least.
+fn long_unlike(r: Look, n: u64, sum: u64) -> u64 {
     if r.changed != n {
-        return false;
-    }
-    if r.off != 0 {
-        return false;
+        return 1;
     }
     if r.sum != sum {
-        return false;
+        return 1;
     }
-    let answer = r.answer;
-    as_expected(answer, order, 256, 1, 1.0, 256.0, 0)
+    r.off
 }
 
 // "The points 0, 1, .. 256 are accepted". Exactly the buffer's cells have changed.
@@ -327,7 +332,8 @@ fn accepted(t: Tally, name: &[u8], order: usize, sum: u64) -> Tally
     print::text(b" ends off, bits ");
     print::hex(r.sum);
     print::text(b"\n");
-    trials::counted(t, long_as_expected(r, order, n as u64, sum))
+    let unlike = long_unlike(r, n as u64, sum);
+    judged(t, answer, unlike, order, 256, 1, 1.0, 256.0)
 }
 
 // "One more gives 2", with the list and the buffer as long as they would have to be; "1 point 304" and "order 4

@@ -4,6 +4,7 @@
 // before a build". Question 10 cannot be made to say no from outside: the matrices depend on the order
 // and the node's place alone, and their pivots are other than zero. Each time the buffer holds a pattern
 // before, with cells on both sides that are not lent; afterwards every cell has to have the same bits.
+use rules::SplineConfig;
 use trials::Tally;
 use trials::buffer;
 use trials::builds;
@@ -67,10 +68,13 @@ fn changed(cells: &[f64; 64]) -> u64 {
     buffer::changed(cells)
 }
 
-fn asked(c: Call) -> Outcome {
+fn config(c: Call) -> SplineConfig {
     let start_state = builds::state(c.start_kind, c.start_rows, c.start_columns);
     let end_state = builds::state(c.end_kind, c.end_rows, c.end_columns);
-    let config = builds::config(c.order, c.s_min, c.s_max, start_state, end_state);
+    builds::config(c.order, c.s_min, c.s_max, start_state, end_state)
+}
+
+fn asked(c: Call) -> Outcome {
     let mut waypoints = [c.waypoint; 32];
     waypoints[0] = 0.0;
     let start = [c.start_number; 32];
@@ -82,7 +86,7 @@ fn asked(c: Call) -> Outcome {
     let mut cells = [0.0; 64];
     buffer::fill(&mut cells, 0.5);
     let answer = spline::from_waypoints_view(
-        config,
+        config(c),
         c.points,
         c.axes,
         &waypoints[0..given],

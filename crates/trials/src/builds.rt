@@ -1,6 +1,7 @@
 // A build's configuration, and what its answer is held to.
 use crate::bits;
 use rules::BoundaryState;
+use rules::BuildAnswer;
 use rules::OutOfRangeMode;
 use rules::PathParam;
 use rules::PathRecord;
@@ -76,16 +77,24 @@ pub fn is_blank(path: PathRecord) -> bool {
     ranges(path, 0.0, 0.0, 0.0)
 }
 
-// The record of a build that says yes: what was asked for, with inv_ds, and the mode Clamp.
-pub fn is_record(
-    path: PathRecord,
+// A build that says yes: 0, no coefficient unlike, and the record of what was asked for, from 0 to s_max, with
+// inv_ds and the mode Clamp.
+pub fn is_served(
+    answer: BuildAnswer,
+    unlike: u64,
     order: usize,
     segments: usize,
     axes: usize,
-    s_min: f64,
     s_max: f64,
     inv_ds: f64,
 ) -> bool {
+    if answer.number != 0 {
+        return false;
+    }
+    if unlike != 0 {
+        return false;
+    }
+    let path = answer.path;
     let mode = path.mode;
     if is_error(mode) {
         return false;
@@ -93,7 +102,7 @@ pub fn is_record(
     if !has(path, order, segments, axes) {
         return false;
     }
-    ranges(path, s_min, s_max, inv_ds)
+    ranges(path, 0.0, s_max, inv_ds)
 }
 
 // A refusal: its number, the all-zero record, and no cell of the buffer changed.
