@@ -57,53 +57,61 @@ fn shown(name: &[u8], answer: BuildAnswer, cells: &[f64]) {
     print::text(b"\n");
 }
 
-// Each prints its line, and answers how many coefficients are not as wanted.
-fn four(name: &[u8], answer: BuildAnswer, cells: &[f64; 4], wanted: &[f64; 4]) -> u64 {
-    shown(name, answer, cells);
+// Prints a line with as many coefficients as are wanted, and answers how many of them are otherwise. The array's
+// other cells were not lent.
+fn compared(name: &[u8], answer: BuildAnswer, cells: &[f64], wanted: &[f64]) -> u64 {
+    let n = buffer::least(cells.len(), wanted.len());
+    shown(name, answer, &cells[0..n]);
     buffer::unlike(cells, wanted)
 }
 
-fn six(name: &[u8], answer: BuildAnswer, cells: &[f64; 6], wanted: &[f64; 6]) -> u64 {
-    shown(name, answer, cells);
-    buffer::unlike(cells, wanted)
+// (After a part of an array was lent, only a parameter's type tells the prover its length again.)
+fn first(name: &[u8], answer: BuildAnswer, cells: &[f64; 8], wanted: &[f64]) -> u64 {
+    compared(name, answer, cells, wanted)
 }
 
-fn twenty_four(name: &[u8], answer: BuildAnswer, cells: &[f64; 24], wanted: &[f64; 24]) -> u64 {
-    shown(name, answer, cells);
-    buffer::unlike(cells, wanted)
-}
-
-// Range 0 to 49, points 0 1. The coefficients are piece a's: no state, so the range does not count.
-fn piece_m(t: Tally) -> Tally {
-    let mut cells = [7.0; 4];
-    let nothing = [7.0; 1];
+// Points 0 1, one axis, no end state. The buffer has as many cells as are wanted. The list of the start stands
+// beside the end too, where nobody looks at it.
+fn one_segment(
+    t: Tally,
+    name: &[u8],
+    order: usize,
+    start_kind: u8,
+    start: &[f64],
+    s_max: f64,
+    inv_ds: f64,
+    wanted: &[f64],
+) -> Tally {
+    let mut cells = [7.0; 8];
+    let n = buffer::least(wanted.len(), 8);
     let waypoints = [0.0, 1.0];
     let answer = built(
-        3,
+        order,
         2,
         1,
         &waypoints,
+        start_kind,
+        start,
         0,
-        &nothing,
-        0,
-        &nothing,
-        49.0,
-        &mut cells,
+        start,
+        s_max,
+        &mut cells[0..n],
     );
-    let unlike = four(b"m", answer, &cells, &[0.0, 0.0, 3.0, -2.0]);
-    judged(t, answer, unlike, 3, 1, 1, 49.0, 1.0 / 49.0)
+    let unlike = first(name, answer, &cells, wanted);
+    judged(t, answer, unlike, order, 1, 1, s_max, inv_ds)
 }
 
-// Range 0 to 2, points 0 1, start 3 per unit of s: "coefficient 1 is 6". The last two by table H of
-// document 01: 3 - 2 * 6 and -2 + 6.
+// Range 0 to 49. The coefficients are piece a's: no state, so the range does not count.
+fn piece_m(t: Tally) -> Tally {
+    let wanted = [0.0, 0.0, 3.0, -2.0];
+    one_segment(t, b"m", 3, 0, &[7.0], 49.0, 1.0 / 49.0, &wanted)
+}
+
+// Range 0 to 2, start 3 per unit of s: "coefficient 1 is 6". The last two by table H of document 01:
+// 3 - 2 * 6 and -2 + 6.
 fn piece_n(t: Tally) -> Tally {
-    let mut cells = [7.0; 4];
-    let nothing = [7.0; 1];
-    let start = [3.0];
-    let waypoints = [0.0, 1.0];
-    let answer = built(3, 2, 1, &waypoints, 2, &start, 0, &nothing, 2.0, &mut cells);
-    let unlike = four(b"n", answer, &cells, &[0.0, 6.0, -9.0, 4.0]);
-    judged(t, answer, unlike, 3, 1, 1, 2.0, 0.5)
+    let wanted = [0.0, 6.0, -9.0, 4.0];
+    one_segment(t, b"n", 3, 2, &[3.0], 2.0, 0.5, &wanted)
 }
 
 // Order 5, two axes, three points, both states given. Axis one is piece f. Axis two has the points 0 0 0,
@@ -140,25 +148,24 @@ fn two_axes(t: Tally) -> Tally {
         -84.0,
         42.0,
     ];
-    let unlike = twenty_four(b"two axes, order 5", answer, &cells, &wanted);
+    let unlike = compared(b"two axes, order 5", answer, &cells, &wanted);
     judged(t, answer, unlike, 5, 2, 2, 1.0, 2.0)
 }
 
 // Order 5, range 0 to 4, so inv_ds is 1/4; start 3 5 per unit of s: the first is divided once and is 12,
 // the second twice and is 80. The rest by table H.
 fn per_unit_of_s(t: Tally) -> Tally {
-    let mut cells = [7.0; 6];
-    let nothing = [7.0; 1];
-    let start = [3.0, 5.0];
-    let waypoints = [0.0, 1.0];
-    let answer = built(5, 2, 1, &waypoints, 2, &start, 0, &nothing, 4.0, &mut cells);
-    let unlike = six(
+    let wanted = [0.0, 12.0, 80.0, -302.0, 321.0, -110.0];
+    one_segment(
+        t,
         b"per unit of s, order 5",
-        answer,
-        &cells,
-        &[0.0, 12.0, 80.0, -302.0, 321.0, -110.0],
-    );
-    judged(t, answer, unlike, 5, 1, 1, 4.0, 0.25)
+        5,
+        2,
+        &[3.0, 5.0],
+        4.0,
+        0.25,
+        &wanted,
+    )
 }
 
 // A sum of the bits of the cells from a place on, up to another, that tells places apart: three times the sum
@@ -217,17 +224,18 @@ fn divided_in_turn(t: Tally) -> Tally {
 
 // A state that is none has zeros, whatever stands in the list beside it. The coefficients are piece b's.
 fn none_is_not_looked_at(t: Tally) -> Tally {
-    let mut cells = [7.0; 6];
     let beside = [0.0 / 0.0; 3];
-    let waypoints = [0.0, 1.0];
-    let answer = built(5, 2, 1, &waypoints, 0, &beside, 0, &beside, 1.0, &mut cells);
-    let unlike = six(
+    let wanted = [0.0, 0.0, 0.0, 10.0, -15.0, 6.0];
+    one_segment(
+        t,
         b"NaN beside none, order 5",
-        answer,
-        &cells,
-        &[0.0, 0.0, 0.0, 10.0, -15.0, 6.0],
-    );
-    judged(t, answer, unlike, 5, 1, 1, 1.0, 1.0)
+        5,
+        0,
+        &beside,
+        1.0,
+        1.0,
+        &wanted,
+    )
 }
 
 // The sum of the cells from a place on, up to another.
