@@ -1,9 +1,10 @@
 // Runs a refused call for each question before a build, and for each two neighbouring questions one where
 // both say no: the first one's number has to come. Prints a short line for each, and at the end how many
-// calls there were and how many were answered otherwise than expected. All expected numbers are document 01's, "Questions
-// before a build". Question 10 cannot be made to say no from outside: the matrices depend on the order
-// and the node's place alone, and their pivots are other than zero. Each time the buffer holds a pattern
-// before, with cells on both sides that are not lent; afterwards every cell has to have the same bits.
+// calls there were and how many were answered otherwise than expected. All expected numbers are document
+// 01's, "Questions before a build". Question 10 cannot be made to say no from outside: the matrices depend
+// on the order and the node's place alone, and their pivots are other than zero. Each time the buffer holds
+// a pattern before, with cells on both sides that are not lent; afterwards every cell has to have the same
+// bits.
 use rules::SplineConfig;
 use trials::Tally;
 use trials::buffer;
@@ -64,6 +65,7 @@ struct Outcome {
     changed: u64,
 }
 
+// (After a part of an array was lent, only a parameter's type tells the prover its length again.)
 fn changed(cells: &[f64; 64]) -> u64 {
     buffer::changed(cells)
 }

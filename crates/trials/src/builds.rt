@@ -44,7 +44,6 @@ fn is_error(mode: OutOfRangeMode) -> bool {
     }
 }
 
-// The record has these numbers, the floats bit for bit.
 fn has(path: PathRecord, order: usize, segments: usize, axes: usize) -> bool {
     if path.order != order {
         return false;
@@ -55,6 +54,7 @@ fn has(path: PathRecord, order: usize, segments: usize, axes: usize) -> bool {
     path.axes == axes
 }
 
+// Bit for bit.
 fn ranges(path: PathRecord, s_min: f64, s_max: f64, inv_ds: f64) -> bool {
     if !bits::same(path.s_min.0, s_min) {
         return false;

@@ -39,7 +39,7 @@ fn signed(negative: bool, n: u64) {
 }
 
 // A whole number in decimal, any other by its bits. Either zero is 0.
-pub fn number(x: f64) {
+fn number(x: f64) {
     let n = whole_part_or_zero(magnitude(x));
     if std::num::nearest_u64_to_f64(n) == magnitude(x) {
         signed(x < 0.0, n);
