@@ -1,10 +1,12 @@
 // Builds that say yes: trial pieces m, n and o of document 01 and four more. `compare/builds SPLINE_RS
 // pieces` prints the coefficients and sums below from the Rust text.
 ghost use Prim.Native.Nat.{_≤_};
-use crate::call;
-use crate::call::Tally;
-use crate::print;
 use rules::BuildAnswer;
+use trials::Tally;
+use trials::bits;
+use trials::buffer;
+use trials::builds;
+use trials::print;
 
 // The state of an axis has m = (order - 1) / 2 numbers.
 fn built(
@@ -19,94 +21,97 @@ fn built(
     s_max: f64,
     cells: &mut [f64],
 ) -> BuildAnswer {
-    let start_state = call::state(start_kind, axes, order / 2);
-    let end_state = call::state(end_kind, axes, order / 2);
-    let config = call::config(order, 0.0, s_max, start_state, end_state);
+    let start_state = builds::state(start_kind, axes, order / 2);
+    let end_state = builds::state(end_kind, axes, order / 2);
+    let config = builds::config(order, 0.0, s_max, start_state, end_state);
     spline::from_waypoints_view(config, points, axes, waypoints, start, end, cells)
 }
 
 // What a line shows of an answer before its coefficients.
 fn answered(name: &[u8], answer: BuildAnswer) {
     let path = answer.path;
-    print::text(name);
-    print::text(b": ");
-    print::decimal(call::wide(answer.number));
-    print::text(b", inv_ds ");
+    print::answered(name, answer.number);
+    print::text(b"inv_ds ");
     print::bits(path.inv_ds);
     print::text(b",");
 }
 
-fn as_expected(
+fn judged(
+    t: Tally,
     answer: BuildAnswer,
+    unlike: u64,
     order: usize,
     segments: usize,
     axes: usize,
     s_max: f64,
     inv_ds: f64,
-    unlike: u64,
-) -> bool {
-    if answer.number != 0 {
-        return false;
-    }
-    if unlike != 0 {
-        return false;
-    }
-    let path = answer.path;
-    call::is_record(path, order, segments, axes, 0.0, s_max, inv_ds)
+) -> Tally {
+    let served = builds::is_served(answer, unlike, order, segments, axes, s_max, inv_ds);
+    trials::counted(t, served)
 }
 
-// Prints the coefficients, and answers how many are not as wanted.
-fn four(cells: &[f64; 4], wanted: &[f64; 4]) -> u64 {
+// A line with all coefficients.
+fn shown(name: &[u8], answer: BuildAnswer, cells: &[f64]) {
+    answered(name, answer);
     print::numbers(cells);
     print::text(b"\n");
-    call::unlike(cells, wanted)
 }
 
-fn six(cells: &[f64; 6], wanted: &[f64; 6]) -> u64 {
-    print::numbers(cells);
-    print::text(b"\n");
-    call::unlike(cells, wanted)
+// Prints a line with as many coefficients as are wanted, and answers how many of them are otherwise. The array's
+// other cells were not lent.
+fn compared(name: &[u8], answer: BuildAnswer, cells: &[f64], wanted: &[f64]) -> u64 {
+    let n = buffer::least(cells.len(), wanted.len());
+    shown(name, answer, &cells[0..n]);
+    buffer::unlike(cells, wanted)
 }
 
-fn twenty_four(cells: &[f64; 24], wanted: &[f64; 24]) -> u64 {
-    print::numbers(cells);
-    print::text(b"\n");
-    call::unlike(cells, wanted)
+// (After a part of an array was lent, only a parameter's type tells the prover its length again.)
+fn first(name: &[u8], answer: BuildAnswer, cells: &[f64; 8], wanted: &[f64]) -> u64 {
+    compared(name, answer, cells, wanted)
 }
 
-// Range 0 to 49, points 0 1. The coefficients are piece a's: no state, so the range does not count.
-fn piece_m(t: Tally) -> Tally {
-    let mut cells = [7.0; 4];
-    let nothing = [7.0; 1];
+// Points 0 1, one axis, no end state. The buffer has as many cells as are wanted. The list of the start stands
+// beside the end too, where nobody looks at it.
+fn one_segment(
+    t: Tally,
+    name: &[u8],
+    order: usize,
+    start_kind: u8,
+    start: &[f64],
+    s_max: f64,
+    inv_ds: f64,
+    wanted: &[f64],
+) -> Tally {
+    let mut cells = [7.0; 8];
+    let n = buffer::least(wanted.len(), 8);
     let waypoints = [0.0, 1.0];
     let answer = built(
-        3,
+        order,
         2,
         1,
         &waypoints,
+        start_kind,
+        start,
         0,
-        &nothing,
-        0,
-        &nothing,
-        49.0,
-        &mut cells,
+        start,
+        s_max,
+        &mut cells[0..n],
     );
-    answered(b"m", answer);
-    let unlike = four(&cells, &[0.0, 0.0, 3.0, -2.0]);
-    call::counted(t, as_expected(answer, 3, 1, 1, 49.0, 1.0 / 49.0, unlike))
+    let unlike = first(name, answer, &cells, wanted);
+    judged(t, answer, unlike, order, 1, 1, s_max, inv_ds)
 }
 
-// Range 0 to 2, points 0 1, start 3 per unit of s: "coefficient 1 is 6". The last two by table H of
-// document 01: 3 - 2 * 6 and -2 + 6.
+// Range 0 to 49. The coefficients are piece a's: no state, so the range does not count.
+fn piece_m(t: Tally) -> Tally {
+    let wanted = [0.0, 0.0, 3.0, -2.0];
+    one_segment(t, b"m", 3, 0, &[7.0], 49.0, 1.0 / 49.0, &wanted)
+}
+
+// Range 0 to 2, start 3 per unit of s: "coefficient 1 is 6". The last two by table H of document 01:
+// 3 - 2 * 6 and -2 + 6.
 fn piece_n(t: Tally) -> Tally {
-    let mut cells = [7.0; 4];
-    let nothing = [7.0; 1];
-    let start = [3.0];
-    let waypoints = [0.0, 1.0];
-    let answer = built(3, 2, 1, &waypoints, 2, &start, 0, &nothing, 2.0, &mut cells);
-    answered(b"n", answer);
-    let unlike = four(&cells, &[0.0, 6.0, -9.0, 4.0]);
-    call::counted(t, as_expected(answer, 3, 1, 1, 2.0, 0.5, unlike))
+    let wanted = [0.0, 6.0, -9.0, 4.0];
+    one_segment(t, b"n", 3, 2, &[3.0], 2.0, 0.5, &wanted)
 }
 
 // Order 5, two axes, three points, both states given. Axis one is piece f. Axis two has the points 0 0 0,
@@ -117,7 +122,6 @@ fn two_axes(t: Tally) -> Tally {
     let start = [0.0, 48.0, 0.0, 0.0];
     let end = [0.0, 0.0, 0.0, 24.0];
     let answer = built(5, 3, 2, &waypoints, 1, &start, 1, &end, 1.0, &mut cells);
-    answered(b"two axes, order 5", answer);
     let wanted = [
         0.0,
         0.0,
@@ -144,43 +148,45 @@ fn two_axes(t: Tally) -> Tally {
         -84.0,
         42.0,
     ];
-    let unlike = twenty_four(&cells, &wanted);
-    call::counted(t, as_expected(answer, 5, 2, 2, 1.0, 2.0, unlike))
+    let unlike = compared(b"two axes, order 5", answer, &cells, &wanted);
+    judged(t, answer, unlike, 5, 2, 2, 1.0, 2.0)
 }
 
 // Order 5, range 0 to 4, so inv_ds is 1/4; start 3 5 per unit of s: the first is divided once and is 12,
 // the second twice and is 80. The rest by table H.
 fn per_unit_of_s(t: Tally) -> Tally {
-    let mut cells = [7.0; 6];
-    let nothing = [7.0; 1];
-    let start = [3.0, 5.0];
-    let waypoints = [0.0, 1.0];
-    let answer = built(5, 2, 1, &waypoints, 2, &start, 0, &nothing, 4.0, &mut cells);
-    answered(b"per unit of s, order 5", answer);
-    let unlike = six(&cells, &[0.0, 12.0, 80.0, -302.0, 321.0, -110.0]);
-    call::counted(t, as_expected(answer, 5, 1, 1, 4.0, 0.25, unlike))
+    let wanted = [0.0, 12.0, 80.0, -302.0, 321.0, -110.0];
+    one_segment(
+        t,
+        b"per unit of s, order 5",
+        5,
+        2,
+        &[3.0, 5.0],
+        4.0,
+        0.25,
+        &wanted,
+    )
 }
 
 // A sum of the bits of the cells from a place on, up to another, that tells places apart: three times the sum
 // so far, and the next number's bits, modulo 2^64. The two zeros are alike, by x + 0.0.
 fn sum_of_bits(cells: &[f64], from: usize, to: usize) -> u64 {
     let mut sum = 0u64;
-    for i in from..call::least(to, cells.len()) {
+    for i in from..buffer::least(to, cells.len()) {
         let twice = std::num::wrapping_add_u64(sum, sum);
         let thrice = std::num::wrapping_add_u64(twice, sum);
-        sum = std::num::wrapping_add_u64(thrice, print::bits_of(cells[i] + 0.0));
+        sum = std::num::wrapping_add_u64(thrice, bits::bits_of(cells[i] + 0.0));
     }
     sum
 }
 
 // Coefficients 1 to 3 are these, and the bits of all eight have this sum.
-fn eight(cells: &[f64; 8], wanted: &[f64; 4], sum: u64) -> u64 {
-    print::numbers(cells);
-    print::text(b"\n");
+fn eight(name: &[u8], answer: BuildAnswer, cells: &[f64; 8], wanted: &[f64; 4], sum: u64) -> u64 {
+    shown(name, answer, cells);
     if sum_of_bits(cells, 0, 8) != sum {
         return 8;
     }
-    call::unlike(cells, wanted)
+    buffer::unlike(cells, wanted)
 }
 
 // Order 7, range 0 to 49, start 3 3 3 per unit of s. 1/49 is no float, and dividing 3 by its square or its cube
@@ -202,30 +208,40 @@ fn divided_in_turn(t: Tally) -> Tally {
         49.0,
         &mut cells,
     );
-    answered(b"divided in turn, order 7", answer);
     let inv_ds = 1.0 / 49.0;
     let once = 3.0 / inv_ds;
     let twice = once / inv_ds;
     let wanted = [0.0, once, twice, twice / inv_ds];
-    let unlike = eight(&cells, &wanted, 0x9356_f9ba_8000_016c);
-    call::counted(t, as_expected(answer, 7, 1, 1, 49.0, inv_ds, unlike))
+    let unlike = eight(
+        b"divided in turn, order 7",
+        answer,
+        &cells,
+        &wanted,
+        0x9356_f9ba_8000_016c,
+    );
+    judged(t, answer, unlike, 7, 1, 1, 49.0, inv_ds)
 }
 
 // A state that is none has zeros, whatever stands in the list beside it. The coefficients are piece b's.
 fn none_is_not_looked_at(t: Tally) -> Tally {
-    let mut cells = [7.0; 6];
     let beside = [0.0 / 0.0; 3];
-    let waypoints = [0.0, 1.0];
-    let answer = built(5, 2, 1, &waypoints, 0, &beside, 0, &beside, 1.0, &mut cells);
-    answered(b"NaN beside none, order 5", answer);
-    let unlike = six(&cells, &[0.0, 0.0, 0.0, 10.0, -15.0, 6.0]);
-    call::counted(t, as_expected(answer, 5, 1, 1, 1.0, 1.0, unlike))
+    let wanted = [0.0, 0.0, 0.0, 10.0, -15.0, 6.0];
+    one_segment(
+        t,
+        b"NaN beside none, order 5",
+        5,
+        0,
+        &beside,
+        1.0,
+        1.0,
+        &wanted,
+    )
 }
 
 // The sum of the cells from a place on, up to another.
 fn sum(cells: &[f64], from: usize, to: usize) -> f64 {
     let mut x = 0.0;
-    for i in from..call::least(to, cells.len()) {
+    for i in from..buffer::least(to, cells.len()) {
         x = x + cells[i];
     }
     x
@@ -267,7 +283,7 @@ struct Look {
 fn seen(answer: BuildAnswer, order: usize, to: usize, cells: &[f64; 2072]) -> Look {
     Look {
         answer,
-        changed: call::changed(cells),
+        changed: buffer::changed(cells),
         off: ends_off(cells, std::num::wrapping_add_usize(order, 1)),
         sum: sum_of_bits(cells, 8, to),
     }
@@ -277,11 +293,11 @@ fn seen(answer: BuildAnswer, order: usize, to: usize, cells: &[f64; 2072]) -> Lo
 // greatest buffer.
 fn long(order: usize, points: usize, n: usize) -> Look {
     let mut waypoints = [0.0; 258];
-    call::fill(&mut waypoints, 0.0);
-    let given = call::least(points, 258);
-    let n = call::least(n, 2056);
+    buffer::fill(&mut waypoints, 0.0);
+    let given = buffer::least(points, 258);
+    let n = buffer::least(n, 2056);
     let mut cells = [0.0; 2072];
-    call::fill(&mut cells, 0.5);
+    buffer::fill(&mut cells, 0.5);
     let nothing = [7.0; 1];
     let answer = built(
         order,
@@ -298,18 +314,15 @@ fn long(order: usize, points: usize, n: usize) -> Look {
     seen(answer, order, 8 + n, &cells)
 }
 
-fn long_as_expected(r: Look, order: usize, n: u64, sum: u64) -> bool {
+// How many of the three are not as wanted, at least.
+fn long_unlike(r: Look, n: u64, sum: u64) -> u64 {
     if r.changed != n {
-        return false;
-    }
-    if r.off != 0 {
-        return false;
+        return 1;
     }
     if r.sum != sum {
-        return false;
+        return 1;
     }
-    let answer = r.answer;
-    as_expected(answer, order, 256, 1, 1.0, 256.0, 0)
+    r.off
 }
 
 // "The points 0, 1, .. 256 are accepted". Exactly the buffer's cells have changed.
@@ -321,24 +334,14 @@ fn accepted(t: Tally, name: &[u8], order: usize, sum: u64) -> Tally
     let answer = r.answer;
     answered(name, answer);
     print::text(b" ");
-    print::decimal(r.changed);
-    print::text(b" cells changed, ");
+    print::cells_changed(r.changed);
+    print::text(b", ");
     print::decimal(r.off);
     print::text(b" ends off, bits ");
     print::hex(r.sum);
     print::text(b"\n");
-    call::counted(t, long_as_expected(r, order, n as u64, sum))
-}
-
-fn is_refusal(answer: BuildAnswer, changed: u64, number: u32) -> bool {
-    if changed != 0 {
-        return false;
-    }
-    let path = answer.path;
-    if !call::is_blank(path) {
-        return false;
-    }
-    answer.number == number
+    let unlike = long_unlike(r, n as u64, sum);
+    judged(t, answer, unlike, order, 256, 1, 1.0, 256.0)
 }
 
 // "One more gives 2", with the list and the buffer as long as they would have to be; "1 point 304" and "order 4
@@ -348,9 +351,14 @@ fn refused(t: Tally, name: &[u8], order: usize, points: usize, n: usize, number:
     let answer = r.answer;
     answered(name, answer);
     print::text(b" ");
-    print::decimal(r.changed);
-    print::text(b" cells changed\n");
-    call::counted(t, is_refusal(answer, r.changed, number))
+    print::cells_changed(r.changed);
+    print::text(b"\n");
+    let path = answer.path;
+    let blank = builds::is_blank(path);
+    trials::counted(
+        t,
+        builds::is_refusal(answer.number, number, blank, r.changed),
+    )
 }
 
 // The sums of orders 5 and 7 are the Rust's over the stand-in for nalgebra's factoring and solving.

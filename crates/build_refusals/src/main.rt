@@ -1,11 +1,15 @@
-// A refused call for each question before a build, and for each two neighbouring questions one where
-// both say no: the first one's number has to come. All expected numbers are document 01's, "Questions
-// before a build". Question 10 cannot be made to say no from outside: the matrices depend on the order
-// and the node's place alone, and their pivots are other than zero. Each time the buffer holds a pattern
-// before, with cells on both sides that are not lent; afterwards every cell has to have the same bits.
-use crate::call;
-use crate::call::Tally;
-use crate::print;
+// Runs a refused call for each question before a build, and for each two neighbouring questions one where
+// both say no: the first one's number has to come. Prints a short line for each, and at the end how many
+// calls there were and how many were answered otherwise than expected. All expected numbers are document
+// 01's, "Questions before a build". Question 10 cannot be made to say no from outside: the matrices depend
+// on the order and the node's place alone, and their pivots are other than zero. Each time the buffer holds
+// a pattern before, with cells on both sides that are not lent; afterwards every cell has to have the same
+// bits.
+use rules::SplineConfig;
+use trials::Tally;
+use trials::buffer;
+use trials::builds;
+use trials::print;
 
 // One axis unless said otherwise. The first waypoint is 0 and the others are `waypoint`; the numbers of
 // a state are all alike. Lists of more than 32 numbers are cut there, a buffer of more than 48 cells too.
@@ -61,26 +65,30 @@ struct Outcome {
     changed: u64,
 }
 
+// (After a part of an array was lent, only a parameter's type tells the prover its length again.)
 fn changed(cells: &[f64; 64]) -> u64 {
-    call::changed(cells)
+    buffer::changed(cells)
+}
+
+fn config(c: Call) -> SplineConfig {
+    let start_state = builds::state(c.start_kind, c.start_rows, c.start_columns);
+    let end_state = builds::state(c.end_kind, c.end_rows, c.end_columns);
+    builds::config(c.order, c.s_min, c.s_max, start_state, end_state)
 }
 
 fn asked(c: Call) -> Outcome {
-    let start_state = call::state(c.start_kind, c.start_rows, c.start_columns);
-    let end_state = call::state(c.end_kind, c.end_rows, c.end_columns);
-    let config = call::config(c.order, c.s_min, c.s_max, start_state, end_state);
     let mut waypoints = [c.waypoint; 32];
     waypoints[0] = 0.0;
     let start = [c.start_number; 32];
     let end = [c.end_number; 32];
-    let given = call::least(c.waypoints, 32);
-    let starts = call::least(c.start_numbers, 32);
-    let ends = call::least(c.end_numbers, 32);
-    let n = call::least(c.cells, 48);
+    let given = buffer::least(c.waypoints, 32);
+    let starts = buffer::least(c.start_numbers, 32);
+    let ends = buffer::least(c.end_numbers, 32);
+    let n = buffer::least(c.cells, 48);
     let mut cells = [0.0; 64];
-    call::fill(&mut cells, 0.5);
+    buffer::fill(&mut cells, 0.5);
     let answer = spline::from_waypoints_view(
-        config,
+        config(c),
         c.points,
         c.axes,
         &waypoints[0..given],
@@ -91,45 +99,33 @@ fn asked(c: Call) -> Outcome {
     let path = answer.path;
     Outcome {
         number: answer.number,
-        blank: call::is_blank(path),
+        blank: builds::is_blank(path),
         changed: changed(&cells),
     }
 }
 
-fn as_expected(r: Outcome, expected: u32) -> bool {
-    if r.number != expected {
-        return false;
-    }
-    if !r.blank {
-        return false;
-    }
-    r.changed == 0
-}
-
 fn refused(t: Tally, name: &[u8], expected: u32, c: Call) -> Tally {
     let r = asked(c);
-    print::text(name);
-    print::text(b": ");
-    print::decimal(call::wide(r.number));
-    print::text(b", ");
-    print::decimal(r.changed);
+    print::answered(name, r.number);
+    print::cells_changed(r.changed);
     if r.blank {
-        print::text(b" cells changed, record zero\n");
+        print::text(b", record zero\n");
     } else {
-        print::text(b" cells changed, record not zero\n");
+        print::text(b", record not zero\n");
     }
-    call::counted(t, as_expected(r, expected))
+    trials::counted(
+        t,
+        builds::is_refusal(r.number, expected, r.blank, r.changed),
+    )
 }
 
 // The call that the others change is accepted, and writes its four cells.
 fn accepted(t: Tally) -> Tally {
     let r = asked(served());
-    print::text(b"with nothing changed: ");
-    print::decimal(call::wide(r.number));
-    print::text(b", ");
-    print::decimal(r.changed);
-    print::text(b" cells changed\n");
-    call::counted(t, is_accepted(r))
+    print::answered(b"with nothing changed", r.number);
+    print::cells_changed(r.changed);
+    print::text(b"\n");
+    trials::counted(t, is_accepted(r))
 }
 
 fn is_accepted(r: Outcome) -> bool {
@@ -358,11 +354,19 @@ fn seventh_to_ninth(t: Tally) -> Tally {
     question_9(t)
 }
 
-pub fn all(t: Tally) -> Tally {
+fn all(t: Tally) -> Tally {
     let t = accepted(t);
     let t = first_to_sixth(t);
     let t = seventh_to_ninth(t);
     let t = pairs_to_4(t);
     let t = pairs_to_7(t);
     pairs_to_9(t)
+}
+
+fn main() {
+    let t = Tally {
+        calls: 0,
+        unlike: 0,
+    };
+    trials::report(all(t), b" calls, ");
 }

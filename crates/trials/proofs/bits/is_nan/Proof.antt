@@ -2,8 +2,8 @@
 use mathlib.Core.Path.{sym}
 use lib.Ieee.{binary64}
 use lib.Ieee.Bits.{nanBits-above}
-use Rattle.fused_vectors.proofs.is_nan.Statement.{statement}
-use Rattle.fused_vectors.proofs.is_nan.Tie as tie
+use Rattle.trials.proofs.bits.is_nan.Statement.{statement}
+use Rattle.trials.proofs.bits.is_nan.Tie as tie
 
 returns : tie.Need-returns
 returns c = sym (nanBits-above binary64 (c .args .bits))

@@ -2,8 +2,8 @@
 use Prim.Native.Nat.{_-_, _≤_}
 use lib.ListN.{length}
 use borrow.Author.Needs.{needs}
-use Rattle.build_pieces.proofs.call.unlike.Statement.{statement}
-use Rattle.build_pieces.proofs.call.unlike.Tie as tie
+use Rattle.trials.proofs.buffer.unlike.Statement.{statement}
+use Rattle.trials.proofs.buffer.unlike.Tie as tie
 
 abbrev Inv-loop : tie.InvT-loop
 Inv-loop cells wanted n₀ i₀ i-end n i = (i-end ≤ length cells) × (i-end ≤ length wanted)

@@ -3,8 +3,8 @@ use Prim.Native.Nat.{_-_, _≤_}
 use mathlib.Core.Path.{_≡_}
 use lib.ListN.{length}
 use borrow.Author.Needs.{needs}
-use Rattle.build_pieces.proofs.call.fill.Statement.{statement}
-use Rattle.build_pieces.proofs.call.fill.Tie as tie
+use Rattle.trials.proofs.buffer.fill.Statement.{statement}
+use Rattle.trials.proofs.buffer.fill.Tie as tie
 
 abbrev Inv-loop : tie.InvT-loop
 Inv-loop cells₀ first x₀ i₀ i-end cells x i = (i-end ≤ length cells) × (length cells ≡ length cells₀)

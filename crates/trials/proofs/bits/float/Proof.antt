@@ -3,8 +3,8 @@ use mathlib.Core.Path.{sym, _∙_, subst}
 use mathlib.Core.Bool.{Bool, not}
 use lib.Dec.{T}
 use borrow.Author.Needs.{needs}
-use Rattle.fused_vectors.proofs.float.Statement.{statement}
-use Rattle.fused_vectors.proofs.float.Tie as tie
+use Rattle.trials.proofs.bits.float.Statement.{statement}
+use Rattle.trials.proofs.bits.float.Tie as tie
 
 is-nan-requires : tie.Need-is-nan-requires
 is-nan-requires c κs = search needs

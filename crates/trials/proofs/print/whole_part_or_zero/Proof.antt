@@ -3,8 +3,8 @@ use mathlib.Core.Path.{sym, subst}
 use lib.Dec.{T}
 use lib.Ieee.{ofBits, neg}
 use borrow.Author.Needs.{needs}
-use Rattle.build_pieces.proofs.print.whole_part_or_zero.Statement.{statement}
-use Rattle.build_pieces.proofs.print.whole_part_or_zero.Tie as tie
+use Rattle.trials.proofs.print.whole_part_or_zero.Statement.{statement}
+use Rattle.trials.proofs.print.whole_part_or_zero.Tie as tie
 
 truncating-f64-to-u64-requires : tie.Need-truncating-f64-to-u64-requires
 unfolding ofBits neg

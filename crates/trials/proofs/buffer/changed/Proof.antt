@@ -2,8 +2,8 @@
 use Prim.Native.Nat.{_-_, _≤_}
 use lib.ListN.{length}
 use borrow.Author.Needs.{needs}
-use Rattle.build_pieces.proofs.call.changed.Statement.{statement}
-use Rattle.build_pieces.proofs.call.changed.Tie as tie
+use Rattle.trials.proofs.buffer.changed.Statement.{statement}
+use Rattle.trials.proofs.buffer.changed.Tie as tie
 
 abbrev Inv-loop : tie.InvT-loop
 Inv-loop cells x₀ n₀ i₀ i-end x n i = i-end ≤ length cells
@@ -14,14 +14,14 @@ abbrev μ-loop : tie.MeasureT-loop
 loop-holds : tie.Need-loop-holds Inv-loop μ-loop
 loop-holds c = search needs
 
-mul-same-float : tie.Need-mul-same-float Inv-loop μ-loop
-mul-same-float c = search needs
+mul-same : tie.Need-mul-same Inv-loop μ-loop
+mul-same c = search needs
 
-shared-slice-read-same-float : tie.Need-shared-slice-read-same-float Inv-loop μ-loop
-shared-slice-read-same-float c = search needs
+shared-slice-read-same : tie.Need-shared-slice-read-same Inv-loop μ-loop
+shared-slice-read-same c = search needs
 
-same-float-requires : tie.Need-same-float-requires Inv-loop μ-loop
-same-float-requires c κs = search needs
+same-requires : tie.Need-same-requires Inv-loop μ-loop
+same-requires c κs = search needs
 
 wrapping-add-u64-requires : tie.Need-wrapping-add-u64-requires Inv-loop μ-loop
 wrapping-add-u64-requires c κs = search needs
@@ -45,9 +45,9 @@ changed-spec =
     Inv-loop
     μ-loop
     loop-holds
-    mul-same-float
-    shared-slice-read-same-float
-    same-float-requires
+    mul-same
+    shared-slice-read-same
+    same-requires
     wrapping-add-u64-requires
     add-i
     loop-less

@@ -4,17 +4,15 @@ use mathlib.Core.Bool.{false, not}
 use lib.Dec.{T}
 use lib.Ieee.{Float, nan, inf, fin, eq, ne, isNan}
 use borrow.Author.Needs.{needs}
-use Rattle.fused_vectors.proofs.same.Statement.{statement}
-use Rattle.fused_vectors.proofs.same.Tie as tie
+use Rattle.trials.proofs.bits.bits_of.Statement.{statement}
+use Rattle.trials.proofs.bits.bits_of.Tie as tie
 
+-- what equals itself is no NaN
 number : (x : Float) → ne x x ≡ false → T (not (isNan x))
 unfolding ne eq isNan
 number nan h = subst T h tt
 number (inf s) h = tt
 number (fin s m e) h = tt
-
-is-nan-requires : tie.Need-is-nan-requires
-is-nan-requires c κs = search needs
 
 returns : tie.Need-returns
 returns c = search needs
@@ -25,5 +23,5 @@ float-to-bits-result c = number (c .before .args .x) (c .if1 .left)
 returns-2 : tie.Need-returns-2
 returns-2 c = search needs
 
-pub same-spec : {M : Type 1} → statement M
-same-spec = tie.close (tie.spec is-nan-requires returns float-to-bits-result returns-2)
+pub bits-of-spec : {M : Type 1} → statement M
+bits-of-spec = tie.close (tie.spec returns float-to-bits-result returns-2)

@@ -1,4 +1,5 @@
 // Text, whole numbers and floats to standard output.
+use crate::bits::bits_of;
 use libc::STDOUT_FILENO;
 
 pub fn text(words: &[u8]) {
@@ -7,14 +8,6 @@ pub fn text(words: &[u8]) {
 
 pub fn decimal(n: u64) {
     io::print_decimal(STDOUT_FILENO, n);
-}
-
-// A float's bits; every NaN has those of the one that is written 7ff8000000000000.
-pub fn bits_of(x: f64) -> u64 {
-    if x != x {
-        return 0x7ff8_0000_0000_0000;
-    }
-    f64::to_bits(x)
 }
 
 pub fn hex(n: u64) {
@@ -46,7 +39,7 @@ fn signed(negative: bool, n: u64) {
 }
 
 // A whole number in decimal, any other by its bits. Either zero is 0.
-pub fn number(x: f64) {
+fn number(x: f64) {
     let n = whole_part_or_zero(magnitude(x));
     if std::num::nearest_u64_to_f64(n) == magnitude(x) {
         signed(x < 0.0, n);
@@ -61,4 +54,17 @@ pub fn numbers(list: &[f64]) {
         text(b" ");
         number(list[i]);
     }
+}
+
+// How a line starts: the call's name, and 0 or the refusal's number.
+pub fn answered(name: &[u8], number: u32) {
+    text(name);
+    text(b": ");
+    decimal(number as u64);
+    text(b", ");
+}
+
+pub fn cells_changed(n: u64) {
+    decimal(n);
+    text(b" cells changed");
 }

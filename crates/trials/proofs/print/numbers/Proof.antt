@@ -2,8 +2,8 @@
 use Prim.Native.Nat.{_-_, _≤_}
 use lib.ListN.{length}
 use borrow.Author.Needs.{needs}
-use Rattle.build_pieces.proofs.print.numbers.Statement.{statement}
-use Rattle.build_pieces.proofs.print.numbers.Tie as tie
+use Rattle.trials.proofs.print.numbers.Statement.{statement}
+use Rattle.trials.proofs.print.numbers.Tie as tie
 
 abbrev Inv-loop : tie.InvT-loop
 Inv-loop list i₀ t3 i-end i = i-end ≤ length list
