@@ -9,7 +9,7 @@ use Rattle.rules.specs.declared.BoundaryState.{BoundaryState}
 use Rattle.rules.specs.declared.BoundaryState.the-variants.{None, Given}
 use Rattle.rules.specs.declared.SplineConfig.{SplineConfig}
 
--- A state by its kind: 0 is none, 1 is given, 2 is given per unit of s. Any other kind is a state with more rows than any axes, which no shape fits.
+-- A state by its kind: 0 is none, 1 is given, 2 is given per unit of s. Any other kind is a state of the largest usize as rows: question 6 says no to it, as no axes that question 4 lets pass are so many.
 unfoldable pub stateOf : ℕ → ℕ → ℕ → BoundaryState
 stateOf kind rows columns =
     cond (eqb kind 0) None

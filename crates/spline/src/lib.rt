@@ -242,45 +242,9 @@ fn factor_and_fill(
     )
 }
 
-// Two points have no inner node, and need no lists for any.
-fn fill_short(
-    m: usize,
-    axes: usize,
-    waypoints: &[f64],
-    inv_ds: f64,
-    start_state: BoundaryState,
-    start: &[f64],
-    end_state: BoundaryState,
-    end: &[f64],
-    coeffs: &mut [f64],
-) -> bool
-    requires { ⌜ Fillable m 0 axes (now waypoints) «start_state» (now start) «end_state» (now end) (now coeffs) ⌝ }
-    ensures { λ ok. ⌜ (ok ≡ everyNode m 0) × (now (coeffs .exit) ≡ cond ok (joined axes (axisTable m 0 axes (now (waypoints .entry)) «inv_ds» «start_state» (now (start .entry)) «end_state» (now (end .entry)))) (now (coeffs .entry))) ⌝ }
-{
-    let mut entries = [0.0; 1];
-    let mut rows = [0; 1];
-    let mut solved_c = [0.0; 1];
-    let mut solved = [0.0; 1];
-    factor_and_fill(
-        m,
-        0,
-        axes,
-        waypoints,
-        inv_ds,
-        start_state,
-        start,
-        end_state,
-        end,
-        &mut entries,
-        &mut rows,
-        &mut solved_c,
-        &mut solved,
-        coeffs,
-    )
-}
-
-// "Lists per node: fixed arrays for 255 nodes."
-fn fill_long(
+// "Lists per node: fixed arrays for 255 nodes." A curve with fewer nodes has shorter ones, since an array is set to
+// zero before it is used; two points have no inner node.
+fn fill(
     m: usize,
     n: usize,
     axes: usize,
@@ -292,9 +256,53 @@ fn fill_long(
     end: &[f64],
     coeffs: &mut [f64],
 ) -> bool
-    requires { ⌜ Fillable m n axes (now waypoints) «start_state» (now start) «end_state» (now end) (now coeffs) × (n ≤ 255) ⌝ }
+    requires { ⌜ Fillable m n axes (now waypoints) «start_state» (now start) «end_state» (now end) (now coeffs) ⌝ }
     ensures { λ ok. ⌜ (ok ≡ everyNode m n) × (now (coeffs .exit) ≡ cond ok (joined axes (axisTable m n axes (now (waypoints .entry)) «inv_ds» «start_state» (now (start .entry)) «end_state» (now (end .entry)))) (now (coeffs .entry))) ⌝ }
 {
+    if n == 0 {
+        let mut entries = [0.0; 1];
+        let mut rows = [0; 1];
+        let mut solved_c = [0.0; 1];
+        let mut solved = [0.0; 1];
+        return factor_and_fill(
+            m,
+            n,
+            axes,
+            waypoints,
+            inv_ds,
+            start_state,
+            start,
+            end_state,
+            end,
+            &mut entries,
+            &mut rows,
+            &mut solved_c,
+            &mut solved,
+            coeffs,
+        );
+    }
+    if n <= 30 {
+        let mut entries = [0.0; 270];
+        let mut rows = [0; 90];
+        let mut solved_c = [0.0; 270];
+        let mut solved = [0.0; 90];
+        return factor_and_fill(
+            m,
+            n,
+            axes,
+            waypoints,
+            inv_ds,
+            start_state,
+            start,
+            end_state,
+            end,
+            &mut entries,
+            &mut rows,
+            &mut solved_c,
+            &mut solved,
+            coeffs,
+        );
+    }
     let mut entries = [0.0; 2295];
     let mut rows = [0; 765];
     let mut solved_c = [0.0; 2295];
@@ -313,49 +321,6 @@ fn fill_long(
         &mut rows,
         &mut solved_c,
         &mut solved,
-        coeffs,
-    )
-}
-
-// With or without lists for inner nodes.
-fn fill(
-    m: usize,
-    n: usize,
-    axes: usize,
-    waypoints: &[f64],
-    inv_ds: f64,
-    start_state: BoundaryState,
-    start: &[f64],
-    end_state: BoundaryState,
-    end: &[f64],
-    coeffs: &mut [f64],
-) -> bool
-    requires { ⌜ Fillable m n axes (now waypoints) «start_state» (now start) «end_state» (now end) (now coeffs) × (n ≤ 255) ⌝ }
-    ensures { λ ok. ⌜ (ok ≡ everyNode m n) × (now (coeffs .exit) ≡ cond ok (joined axes (axisTable m n axes (now (waypoints .entry)) «inv_ds» «start_state» (now (start .entry)) «end_state» (now (end .entry)))) (now (coeffs .entry))) ⌝ }
-{
-    if n == 0 {
-        return fill_short(
-            m,
-            axes,
-            waypoints,
-            inv_ds,
-            start_state,
-            start,
-            end_state,
-            end,
-            coeffs,
-        );
-    }
-    fill_long(
-        m,
-        n,
-        axes,
-        waypoints,
-        inv_ds,
-        start_state,
-        start,
-        end_state,
-        end,
         coeffs,
     )
 }

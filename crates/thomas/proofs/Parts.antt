@@ -1,5 +1,5 @@
 -- A part of a list that is lent: how long it is, that the code's count for it is its length, and a list of which both halves were lent. Assumes nothing.
-use mathlib.Core.Path.{_≡_, ap, _∙_}
+use mathlib.Core.Path.{_≡_, ap}
 use mathlib.Core.List.{List, _++_, append-nil}
 use Prim.Native.Nat.{ℕ, _+_, _-_, _≤_}
 use native.Mathlib.Nat.{sub-zero}

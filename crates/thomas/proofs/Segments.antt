@@ -1,9 +1,9 @@
 -- A segment's cells, written in three pieces, are the segment's coefficients. Assumes nothing.
-use mathlib.Core.Path.{_≡_, refl, sym, ap, ap₂, _∙_}
-use mathlib.Core.List.{List, [], _∷_, _++_, append-assoc, append-nil}
-use Prim.Native.Nat.{ℕ, _+_, _-_, _*_, _≤_}
+use mathlib.Core.Path.{_≡_, ap, ap₂, _∙_}
+use mathlib.Core.List.{List, [], _∷_, _++_, append-nil}
+use Prim.Native.Nat.{ℕ, _+_, _-_, _*_}
 use native.Mathlib.Omega.{arith}
-use lib.ListN.{length, take, drop, set, length-append, length-drop, drop-of-length-le}
+use lib.ListN.{length, take, drop, set, length-drop, drop-of-length-le}
 use lib.Seq.{take-at, drop-at}
 use lib.Ieee.{Float}
 

@@ -1,13 +1,12 @@
 -- An upper coefficient as the code sums it up. Assumes nothing.
-use mathlib.Core.Path.{_≡_, sym, ap, ap₂, _∙_}
+use mathlib.Core.Path.{_≡_, sym, ap}
 use mathlib.Core.List.{List}
-use Prim.Native.Nat.{ℕ, _+_, _*_, _<_}
+use Prim.Native.Nat.{ℕ, _+_, _*_}
 use native.Mathlib.Nat.{add-zero}
 use native.Mathlib.Omega.{arith}
 use lib.Ieee.{Float}
 use Rattle.rules.specs.Floats.{_⊗_, _⊕_, _!_, sumOf}
 use Rattle.rules.specs.Tables.{H}
-use Rattle.rules.specs.Solve.{entry}
 use Rattle.rules.specs.Build.{upperCoefficient}
 use Rattle.block.proofs.Sums.{sumOf-ext}
 

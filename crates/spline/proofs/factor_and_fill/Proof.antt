@@ -1,8 +1,6 @@
 -- `spline::factor_and_fill` meets its contract: the tables are lent at their lengths. Assumes nothing.
-use mathlib.Core.List.{List}
 use Prim.Native.Nat.{_+_, _≤_}
 use native.Mathlib.Omega.{arith}
-use lib.Ieee.{Float}
 use Rattle.thomas.proofs.Matrices.{a-room, b-room, c-room, r-room, h-room, lent}
 use Rattle.thomas.proofs.Parts.{start-length}
 use Rattle.thomas.proofs.Sizes.{matrix-small, upper-small}

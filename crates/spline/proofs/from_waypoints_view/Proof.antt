@@ -78,8 +78,7 @@ sub-fill c = points-bounds (c .before .before .before) .0
 fill-requires : tie.Need-fill-requires
 fill-requires c κs =
     let d = c .before .before .before .before in
-    let h = points-bounds d in
-    (fillable (given (d .before)) (buffer (d .before)) (said-yes d), omega arith)
+    fillable (given (d .before)) (buffer (d .before)) (said-yes d)
 
 refused-requires-2 : tie.Need-refused-requires-2
 refused-requires-2 c κs = search needs

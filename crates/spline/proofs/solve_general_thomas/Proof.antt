@@ -1,6 +1,5 @@
 -- `spline::solve_general_thomas` meets its contract: the matrices are factored, and the axes filled with them where no pivot is zero. Assumes nothing.
 use mathlib.Core.Path.{refl, sym, _∙_}
-use native.Mathlib.Omega.{arith}
 use borrow.Author.Tests.{not-true, not-false}
 use Rattle.thomas.proofs.Node.{node-factors, node-solved}
 use Rattle.thomas.proofs.Matrices.{side-tables, upper-table}

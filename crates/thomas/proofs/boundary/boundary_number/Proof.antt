@@ -1,16 +1,16 @@
 -- `thomas::boundary::boundary_number` meets its contract, by the state's case and its mark. Assumes nothing.
-use mathlib.Core.Path.{_≡_, sym, ap, _∙_, subst}
+use mathlib.Core.Path.{_≡_, ap, _∙_, subst}
 use mathlib.Core.Bool.{Bool, true, false}
 use mathlib.Core.List.{List}
 use Prim.Native.Nat.{ℕ, _+_, _*_, _<_, _≤_}
 use native.Mathlib.Nat.{mul-one, mul-le-mul-left, suc-mul}
 use native.Mathlib.Numerals.{add-one}
 use native.Mathlib.Omega.{arith}
-use lib.ListN.{length, getD}
+use lib.ListN.{length}
 use lib.Ieee.{Float, ofBits}
 use Rattle.rules.specs.declared.BoundaryState.{BoundaryState}
 use Rattle.rules.specs.declared.BoundaryState.the-variants.{Given}
-use Rattle.rules.specs.Floats.{_!_, +0}
+use Rattle.rules.specs.Floats.{_!_}
 use Rattle.rules.specs.Build.{divided, boundaryNumber}
 use Rattle.block.proofs.Cells.{read}
 use Rattle.thomas.specs.Kept.{HasNumbers}

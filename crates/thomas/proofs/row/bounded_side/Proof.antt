@@ -1,6 +1,5 @@
 -- `thomas::row::bounded_side` meets its contract: what its three calls leave, one after the other, is the definition's right side. Assumes nothing.
-use mathlib.Core.Path.{_≡_, ap, _∙_}
-use Prim.Native.Nat.{_+_}
+use mathlib.Core.Path.{ap, _∙_}
 use native.Mathlib.Nat.{sub-zero}
 use native.Mathlib.Omega.{arith}
 use lib.ListN.{length, take, drop}

@@ -1,5 +1,5 @@
 -- `thomas::row::full_side` meets its contract: past the first node the part that is read is the previous solved right side. Assumes nothing.
-use mathlib.Core.Path.{_≡_, ap, _∙_}
+use mathlib.Core.Path.{ap, _∙_}
 use Prim.Native.Nat.{_-_}
 use native.Mathlib.Omega.{arith}
 use lib.ListN.{length, take, drop}

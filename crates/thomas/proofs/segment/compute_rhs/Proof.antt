@@ -3,9 +3,9 @@
 use mathlib.Core.Path.{_≡_, sym, ap, ap₂, _∙_}
 use mathlib.Core.List.{List}
 use Prim.Native.Nat.{ℕ, _+_, _-_, _*_, _≤_, _<_}
-use native.Mathlib.Nat.{add-zero, le-of-eq}
+use native.Mathlib.Nat.{add-zero}
 use native.Mathlib.Omega.{arith}
-use lib.ListN.{length, getD, set, length-set}
+use lib.ListN.{length, getD, length-set}
 use lib.Ieee.{Float, nan}
 use Rattle.rules.specs.Floats.{_⊗_, _⊕_, _!_, +0}
 use Rattle.rules.specs.Solve.{entry}

@@ -1,6 +1,5 @@
 -- `thomas::segment::upper_coeffs` meets its contract. The loop's invariant: the list has the upper coefficients below i, and its own cells from i on. Assumes nothing.
-use mathlib.Core.Path.{_≡_, _∙_}
-use Prim.Native.Nat.{ℕ, _+_, _-_, _*_, _≤_}
+use Prim.Native.Nat.{_+_, _-_, _*_, _≤_}
 use native.Mathlib.Omega.{arith}
 use Rattle.rules.specs.Build.{upperCoefficient}
 use Rattle.rules.proofs.Lists.{part-inside}

@@ -1,5 +1,4 @@
 -- `thomas::segment::write_segment_coeffs` meets its contract. Assumes nothing.
-use mathlib.Core.Path.{_≡_, _∙_}
 use Prim.Native.Nat.{_+_}
 use native.Mathlib.Omega.{arith}
 use lib.ListN.{length-set}
