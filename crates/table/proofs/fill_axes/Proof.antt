@@ -1,4 +1,4 @@
--- `spline::fill_axes` meets its contract. The loop's invariant: the buffer has the coefficients of the first axes, and its own cells behind them. Assumes nothing.
+-- `table::fill_axes` meets its contract. The loop's invariant: the buffer has the coefficients of the first axes, and its own cells behind them. Assumes nothing.
 use mathlib.Core.Path.{_≡_, refl, sym, ap, _∙_}
 use Prim.Native.Nat.{_+_, _-_, _*_, _≤_}
 use native.Mathlib.Omega.{arith}
@@ -11,8 +11,8 @@ use Rattle.thomas.specs.Axis.{axisTable}
 use Rattle.thomas.proofs.Parts.{part-size, part-length}
 use Rattle.thomas.proofs.Sizes.{stride-small, table-small}
 use borrow.Author.Needs.{needs}
-use Rattle.spline.proofs.fill_axes.Statement.{statement}
-use Rattle.spline.proofs.fill_axes.Tie as tie
+use Rattle.table.proofs.fill_axes.Statement.{statement}
+use Rattle.table.proofs.fill_axes.Tie as tie
 
 abbrev Inv-loop : tie.InvT-loop
 Inv-loop m n r a c h-coeff entries rows solved-c axes waypoints inv-ds start-state start end-state end ends₀ side₀ solved₀ coeffs₀ stride axis₀ ends side solved coeffs axis =

@@ -1,11 +1,11 @@
--- `spline::fill` meets its contract: each of its lists has room for as many nodes as its test lets through. Assumes nothing.
+-- `table::fill` meets its contract: each of its lists has room for as many nodes as its test lets through. Assumes nothing.
 -- k nodes of at most 3 numbers
 use Prim.Native.Nat.{ℕ, _*_, _≤_}
 use native.Mathlib.Nat.{mul-le-mul}
 use native.Mathlib.Omega.{arith}
 use borrow.Author.Needs.{needs}
-use Rattle.spline.proofs.fill.Statement.{statement}
-use Rattle.spline.proofs.fill.Tie as tie
+use Rattle.table.proofs.fill.Statement.{statement}
+use Rattle.table.proofs.fill.Tie as tie
 
 sized : (k m n : ℕ) → n ≤ k → m ≤ 3 → (n * m ≤ k * 3) × (n * (m * m) ≤ k * 9)
 sized k m n h l = (mul-le-mul h l, mul-le-mul h (mul-le-mul l l))

@@ -1,4 +1,4 @@
--- `spline::factor_and_fill` meets its contract: the tables are lent at their lengths. Assumes nothing.
+-- `table::factor_and_fill` meets its contract: the tables are lent at their lengths. Assumes nothing.
 use Prim.Native.Nat.{_+_, _≤_}
 use native.Mathlib.Omega.{arith}
 use Rattle.thomas.proofs.Matrices.{a-room, b-room, c-room, r-room, h-room, lent}
@@ -7,10 +7,10 @@ use Rattle.thomas.proofs.Sizes.{matrix-small, upper-small}
 use borrow.Author.Needs.{needs}
 use native.Mathlib.Omega.{arith}
 use Rattle.thomas.proofs.Sizes.{matrix-small, upper-small}
-use Rattle.spline.proofs.factor_and_fill.Statement.{statement}
-use Rattle.spline.proofs.factor_and_fill.Tie as tie
+use Rattle.table.proofs.factor_and_fill.Statement.{statement}
+use Rattle.table.proofs.factor_and_fill.Tie as tie
 
--- `spline::factor_and_fill` meets its contract. Assumes nothing.
+-- `table::factor_and_fill` meets its contract. Assumes nothing.
 
 for-order-requires : tie.Need-for-order-requires
 for-order-requires c κs = search needs
