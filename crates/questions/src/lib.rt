@@ -1,5 +1,5 @@
 // Document 01's questions before a build, 1 to 9: those that are asked of what a caller gives. (Question
-// 10, whether every pivot is other than zero, is answered by factoring; see the crate `spline`.) They
+// 10, whether every pivot is other than zero, is answered by factoring; see the crate `table`.) They
 // look at the coefficient buffer's length alone, so that they can be asked without a buffer.
 ghost use mathlib.Core.Path.{_≡_};
 ghost use Prim.Native.Nat.{_≤_};

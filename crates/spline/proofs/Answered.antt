@@ -12,7 +12,6 @@ use lib.Ieee.{Float}
 use lib.Ieee.Fits.{and-r}
 use Rattle.rules.specs.declared.BoundaryState.{BoundaryState}
 use Rattle.rules.specs.declared.BoundaryState.the-variants.{None, Given}
-use Rattle.rules.specs.Lists.{joined}
 use Rattle.rules.specs.Questions.{firstNo}
 use Rattle.rules.specs.Tables.{mOf}
 use Rattle.rules.specs.Build.{BuildInput, validAxes, validState, buildQuestions, acceptedRecord, axisWaypoints, axisState, table}
@@ -20,7 +19,8 @@ use Rattle.rules.proofs.Questions.{answerAt, said-yes}
 use Rattle.rules.proofs.Build.{by-order, coefficient-count}
 use Rattle.rules.proofs.Filling.{joined-ext}
 use Rattle.thomas.specs.Kept.{HasNumbers}
-use Rattle.thomas.specs.Axis.{axisPoints, axisTable, Fillable}
+use Rattle.thomas.specs.Axis.{axisPoints}
+use Rattle.table.specs.Axes.{allAxes, Fillable}
 
 has-numbers : (axes m : ℕ) (state : BoundaryState) (numbers : List Float) → T (validState axes m state numbers) → HasNumbers axes m state numbers
 unfolding validState
@@ -61,7 +61,7 @@ module _ (b : BuildInput) (before : List Float) (e : firstNo (take 10 (buildQues
       }
 
   pub table-is : let cfg = b .config in
-      joined (b .axes) (axisTable (mOf (cfg .order)) (b .points - 2) (b .axes) (b .waypoints) (acceptedRecord b .«inv_ds») (cfg .«start_state») (b .start) (cfg .«end_state») (b .end)) ≡ table b
+      allAxes (mOf (cfg .order)) (b .points - 2) (b .axes) (b .waypoints) (acceptedRecord b .«inv_ds») (cfg .«start_state») (b .start) (cfg .«end_state») (b .end) ≡ table b
   unfolding table axisWaypoints axisState axisPoints
   table-is =
       let known : (2 ≤ b .points) × (b .points ≤ 257) = points-known in

@@ -4,10 +4,9 @@ ghost use mathlib.Core.Path.{_≡_};
 ghost use mathlib.Core.Bool.{cond};
 ghost use Prim.Native.Nat.{_+_, _*_, _≤_, _<_};
 ghost use lib.ListN.{length};
-ghost use Rattle.rules.specs.Lists.{joined};
 ghost use Rattle.block.specs.Kept.{Room};
 ghost use Rattle.thomas.specs.Kept.{Matrices};
-ghost use Rattle.thomas.specs.Axis.{Shared, Fillable, axisTable, everyNode};
+ghost use Rattle.table.specs.Axes.{Shared, Fillable, axisTable, allAxes, everyNode};
 use rules::BoundaryState;
 
 // One axis: the numbers of its first and last node, then its coefficients.
@@ -92,7 +91,7 @@ fn fill_axes(
     coeffs: &mut [f64],
 )
     requires { ⌜ Shared m n (now r) (now a) (now c) (now «h_coeff») (now entries) (now rows) (now «solved_c») axes (now waypoints) «start_state» (now start) «end_state» (now end) × (length (now ends) ≡ m + m) × (length (now side) ≡ m) × (n * m ≤ length (now solved)) × (length (now coeffs) ≡ axes * ((n + 1) * (2 * m + 2))) ⌝ }
-    ensures { λ x. ⌜ now (coeffs .exit) ≡ joined axes (axisTable m n axes (now (waypoints .entry)) «inv_ds» «start_state» (now (start .entry)) «end_state» (now (end .entry))) ⌝ }
+    ensures { λ x. ⌜ now (coeffs .exit) ≡ allAxes m n axes (now (waypoints .entry)) «inv_ds» «start_state» (now (start .entry)) «end_state» (now (end .entry)) ⌝ }
 {
     let stride = (n + 1) * (2 * m + 2);
     let mut axis = 0;
@@ -151,7 +150,7 @@ fn solve_general_thomas(
     coeffs: &mut [f64],
 ) -> bool
     requires { ⌜ Fillable m n axes (now waypoints) «start_state» (now start) «end_state» (now end) (now coeffs) × Matrices m (now a) (now b) (now c) (now r) (now «h_coeff») × Room m n (now entries) (now rows) (now «solved_c») × (length (now ends) ≡ m + m) × (length (now side) ≡ m) × (n * m ≤ length (now solved)) ⌝ }
-    ensures { λ ok. ⌜ (ok ≡ everyNode m n) × (now (coeffs .exit) ≡ cond ok (joined axes (axisTable m n axes (now (waypoints .entry)) «inv_ds» «start_state» (now (start .entry)) «end_state» (now (end .entry)))) (now (coeffs .entry))) ⌝ }
+    ensures { λ ok. ⌜ (ok ≡ everyNode m n) × (now (coeffs .exit) ≡ cond ok (allAxes m n axes (now (waypoints .entry)) «inv_ds» «start_state» (now (start .entry)) «end_state» (now (end .entry))) (now (coeffs .entry))) ⌝ }
 {
     if !block::factor_nodes(m, n, a, b, c, entries, rows, solved_c) {
         return false;
@@ -199,7 +198,7 @@ fn factor_and_fill(
     coeffs: &mut [f64],
 ) -> bool
     requires { ⌜ Fillable m n axes (now waypoints) «start_state» (now start) «end_state» (now end) (now coeffs) × Room m n (now entries) (now rows) (now «solved_c») × (n * m ≤ length (now solved)) ⌝ }
-    ensures { λ ok. ⌜ (ok ≡ everyNode m n) × (now (coeffs .exit) ≡ cond ok (joined axes (axisTable m n axes (now (waypoints .entry)) «inv_ds» «start_state» (now (start .entry)) «end_state» (now (end .entry)))) (now (coeffs .entry))) ⌝ }
+    ensures { λ ok. ⌜ (ok ≡ everyNode m n) × (now (coeffs .exit) ≡ cond ok (allAxes m n axes (now (waypoints .entry)) «inv_ds» «start_state» (now (start .entry)) «end_state» (now (end .entry))) (now (coeffs .entry))) ⌝ }
 {
     let t = thomas::tables::for_order(m);
     let a = t.a;
@@ -251,7 +250,7 @@ pub fn fill(
     coeffs: &mut [f64],
 ) -> bool
     requires { ⌜ Fillable m n axes (now waypoints) «start_state» (now start) «end_state» (now end) (now coeffs) ⌝ }
-    ensures { λ ok. ⌜ (ok ≡ everyNode m n) × (now (coeffs .exit) ≡ cond ok (joined axes (axisTable m n axes (now (waypoints .entry)) «inv_ds» «start_state» (now (start .entry)) «end_state» (now (end .entry)))) (now (coeffs .entry))) ⌝ }
+    ensures { λ ok. ⌜ (ok ≡ everyNode m n) × (now (coeffs .exit) ≡ cond ok (allAxes m n axes (now (waypoints .entry)) «inv_ds» «start_state» (now (start .entry)) «end_state» (now (end .entry))) (now (coeffs .entry))) ⌝ }
 {
     if n == 0 {
         let mut entries = [0.0; 1];

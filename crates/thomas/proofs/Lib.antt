@@ -5,6 +5,5 @@ pub mod Nodes
 pub mod Parts
 pub mod Segments
 pub mod Sides
-pub mod Sizes
 pub mod States
 pub mod Upper

@@ -1,19 +1,17 @@
 -- What the functions of one axis are lent. Assumes nothing.
 use mathlib.Core.Path.{_≡_}
 use Prim.Native.Nat.{ℕ, zero, suc, _+_, _-_, _*_, _<_, _≤_}
-use mathlib.Core.Bool.{Bool, cond}
+use mathlib.Core.Bool.{cond}
 use mathlib.Core.List.{List, _++_}
 use lib.ListN.{length, take, drop}
 use lib.Dec.{ltb}
 use lib.Ieee.{Float}
 use Rattle.rules.specs.Floats.{_!_}
-use Rattle.rules.specs.Lists.{listed, every}
+use Rattle.rules.specs.Lists.{listed}
 use Rattle.rules.specs.Tables.{A, C, R}
-use Rattle.rules.specs.Solve.{times, minus, nonzeroPivots, nodeFactors, solvedC}
-use Rattle.rules.specs.Build.{dy, segmentCoefficients, boundedSide, solvedSide, axisCoefficients, boundaryNumber}
-use Rattle.rules.specs.declared.BoundaryState.{BoundaryState}
+use Rattle.rules.specs.Solve.{times, minus, nodeFactors, solvedC}
+use Rattle.rules.specs.Build.{dy, segmentCoefficients, boundedSide, solvedSide}
 use Rattle.block.specs.Kept.{transposed}
-use Rattle.thomas.specs.Kept.{UpperTable, HasNumbers}
 
 -- an axis's waypoints, of a list that is column-major, axes by points
 unfoldable pub axisPoints : ℕ → ℕ → List Float → ℕ → List Float
@@ -74,37 +72,3 @@ nodePart m n boundary solved (suc i) = cond (ltb i n) (take m (drop (i * m) solv
 -- segment i's coefficients, with its nodes' numbers as they are kept
 abbrev pub segmentOf : ℕ → ℕ → List Float → List Float → List Float → ℕ → List Float
 segmentOf m n w boundary solved i = segmentCoefficients m (w ! i) (dy w i) (nodePart m n boundary solved i) (nodePart m n boundary solved (suc i))
-
--- what all axes of a build share: the tables, the nodes' matrices, the waypoints, and both states with their numbers
-pub record Shared (m n : ℕ) (r a c h entries : List Float) (rows : List ℕ) (solvedC : List Float) (axes : ℕ) (waypoints : List Float)
-    (startState : BoundaryState) (start : List Float) (endState : BoundaryState) (end : List Float) : Type 0 where
-  pub few : m ≤ 3
-  pub few-nodes : n ≤ 255
-  pub few-axes : axes ≤ 8
-  pub side : SideTables m r a c
-  pub upper : UpperTable m h
-  pub factors : NodeFactors m n entries rows
-  pub solved : NodeSolved m n solvedC
-  pub waypoints-length : length waypoints ≡ (n + 2) * axes
-  pub start-numbers : HasNumbers axes m startState start
-  pub end-numbers : HasNumbers axes m endState end
-
--- an axis's coefficients
-abbrev pub axisTable : ℕ → ℕ → ℕ → List Float → Float → BoundaryState → List Float → BoundaryState → List Float → ℕ → List Float
-axisTable m n axes waypoints inv startState start endState end axis =
-    axisCoefficients m n (axisPoints (n + 2) axes waypoints axis) (listed m (boundaryNumber axes inv startState start axis)) (listed m (boundaryNumber axes inv endState end axis))
-
--- no pivot of n inner nodes is zero
-abbrev pub everyNode : ℕ → ℕ → Bool
-everyNode m n = every n (λ i. nonzeroPivots m (nodeFactors m i))
-
--- what the questions before a build have shown
-pub record Fillable (m n axes : ℕ) (waypoints : List Float) (startState : BoundaryState) (start : List Float) (endState : BoundaryState) (end coeffs : List Float) : Type 0 where
-  pub some : 1 ≤ m
-  pub few : m ≤ 3
-  pub few-nodes : n ≤ 255
-  pub few-axes : axes ≤ 8
-  pub waypoints-length : length waypoints ≡ (n + 2) * axes
-  pub start-numbers : HasNumbers axes m startState start
-  pub end-numbers : HasNumbers axes m endState end
-  pub coeffs-length : length coeffs ≡ axes * ((n + 1) * (2 * m + 2))

@@ -7,9 +7,9 @@ use Rattle.rules.proofs.Lists.{length-listed, part-inside}
 use Rattle.rules.proofs.Build.{length-axis}
 use Rattle.block.proofs.Cells.{next-part}
 use Rattle.block.proofs.Parts.{Parted, none, kept, step, whole}
-use Rattle.thomas.specs.Axis.{axisTable}
+use Rattle.table.specs.Axes.{axisTable}
 use Rattle.thomas.proofs.Parts.{part-size, part-length}
-use Rattle.thomas.proofs.Sizes.{stride-small, table-small}
+use Rattle.table.proofs.Sizes.{stride-small, table-small}
 use borrow.Author.Needs.{needs}
 use Rattle.table.proofs.fill_axes.Statement.{statement}
 use Rattle.table.proofs.fill_axes.Tie as tie
