@@ -14,7 +14,7 @@ use Rattle.rules.proofs.Filling.{listed-at, listed-ext, listed-of, joined-ext, 
 use Rattle.rules.proofs.Solve.{length-solve}
 use Rattle.block.specs.Kept.{transposed}
 use Rattle.rules.proofs.Lists.{part-inside}
-use Rattle.block.proofs.Cells.{part-cell}
+use Rattle.rules.proofs.Cells.{part-cell}
 use Rattle.block.proofs.Transposed.{transposed-at}
 
 module _ (m : ℕ) where

@@ -13,7 +13,7 @@ use Rattle.rules.specs.Solve.{entry, matrix, Factored, eliminated}
 use Rattle.rules.proofs.Filling.{filled, flat, flat-at, filled-set, filled-at, filled-past, filled-on, filled-start, filled-all, matrix-flat}
 use Rattle.block.specs.Steps.{eliminatedEntry, eliminatedTo}
 use Rattle.rules.proofs.Lists.{part-inside}
-use Rattle.block.proofs.Cells.{cell-inside, read}
+use Rattle.rules.proofs.Cells.{cell-inside, read}
 
 -- the rows at and above k stay
 stays-above : (m k : ℕ) (reciprocal : Float) (b : List Float) (i j : ℕ) → i ≤ k → eliminatedEntry m k reciprocal b i j ≡ entry m b i j

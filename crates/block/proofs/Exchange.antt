@@ -15,7 +15,7 @@ use Rattle.rules.specs.Lists.{listed}
 use Rattle.rules.specs.Solve.{entry, matrix, exchange}
 use Rattle.rules.proofs.Lists.{length-listed}
 use Rattle.rules.proofs.Filling.{listed-at, lt-or-le, matrix-of, matrix-at, matrix-ext}
-use Rattle.block.proofs.Cells.{cell-inside, place-same, entry-read}
+use Rattle.rules.proofs.Cells.{cell-inside, place-same, entry-read}
 
 same-or-not : (i j : ℕ) → (i ≡ j) ⊎ (i ≡ j → ⊥)
 same-or-not i j = go (eqb i j) refl

@@ -1,12 +1,9 @@
-pub mod Cells
 pub mod Columns
 pub mod Elimination
 pub mod Exchange
 pub mod Factors
-pub mod Fills
 pub mod Magnitude
 pub mod Nodes
-pub mod Parts
 pub mod Pivots
 pub mod Steps
 pub mod Sums

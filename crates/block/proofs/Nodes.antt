@@ -12,7 +12,7 @@ use Rattle.rules.proofs.Filling.{listed-ext, matrix-ext, length-matrix, parts-a
 use Rattle.block.specs.Kept.{transposed, Tables, nodeSolved}
 use Rattle.block.specs.Steps.{nextEntry, SolvedTo}
 use Rattle.block.proofs.Factors.{length-factor, length-rows}
-use Rattle.block.proofs.Parts.{Parted}
+use Rattle.rules.proofs.Parts.{Parted}
 use Rattle.block.proofs.Sums.{sumOf-ext}
 use Rattle.block.proofs.Transposed.{transposed-at, length-transposed}
 

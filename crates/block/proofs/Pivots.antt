@@ -12,7 +12,7 @@ use Rattle.rules.specs.Floats.{+0, magnitude}
 use Rattle.rules.specs.Lists.{every}
 use Rattle.rules.specs.Solve.{entry, pivotRow}
 use Rattle.rules.proofs.Lists.{every-at}
-use Rattle.block.proofs.Cells.{entry-read}
+use Rattle.rules.proofs.Cells.{entry-read}
 
 -- one row more: x and y are the magnitudes that are compared, and t is the answer
 pub pivot-step : (m : ℕ) (a : List Float) (k best next : ℕ) (x y : Float) (t : Bool) → k < next → best < next → next < m → length a ≡ m * m

@@ -9,7 +9,7 @@ use Rattle.rules.specs.Floats.{_⊗_, _!_, +0, sumOf}
 use Rattle.rules.specs.Solve.{entry, times}
 use Rattle.rules.proofs.Filling.{listed-at, matrix-at, matrix-ext, matrix-of, length-matrix}
 use Rattle.block.specs.Kept.{transposed}
-use Rattle.block.proofs.Cells.{part-cell}
+use Rattle.rules.proofs.Cells.{part-cell}
 use Rattle.block.proofs.Sums.{sumOf-ext}
 
 module _ (m : ℕ) (a : List Float) where

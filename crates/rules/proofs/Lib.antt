@@ -1,5 +1,8 @@
 pub mod Lists
 pub mod Filling
+pub mod Cells
+pub mod Fills
+pub mod Parts
 pub mod Questions
 pub mod Solve
 pub mod Build

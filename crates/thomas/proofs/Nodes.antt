@@ -16,7 +16,7 @@ use Rattle.rules.specs.Build.{dy, segmentCoefficients, innerNumbers, nodeNumber
 use Rattle.rules.proofs.Lists.{length-joined, part-inside}
 use Rattle.rules.proofs.Filling.{lt-or-le, listed-at, joined-ext, parts-at}
 use Rattle.rules.proofs.Build.{length-inner}
-use Rattle.block.proofs.Cells.{cell-inside}
+use Rattle.rules.proofs.Cells.{cell-inside}
 use Rattle.thomas.specs.Axis.{AxisOf, axisPoints, nodePart, segmentOf}
 
 module _ (m n : ℕ) (boundary solved : List Float) where

@@ -7,7 +7,7 @@ use Rattle.rules.specs.Solve.{nodeFactors}
 use Rattle.block.specs.Kept.{nodeSolved}
 use Rattle.block.proofs.Factors.{rows-below}
 use Rattle.block.proofs.Nodes.{solved-node, solved-parts}
-use Rattle.block.proofs.Parts.{step}
+use Rattle.rules.proofs.Parts.{step}
 use Rattle.block.proofs.Transposed.{length-transposed}
 use Rattle.block.proofs.factor_node.Statement.{statement}
 use Rattle.block.proofs.factor_node.Tie as tie

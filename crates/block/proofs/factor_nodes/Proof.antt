@@ -10,9 +10,9 @@ use Rattle.rules.specs.Lists.{every}
 use Rattle.rules.specs.Solve.{nonzeroPivots, nodeFactors, solvedC}
 use Rattle.block.specs.Kept.{transposed, nodeEntries, nodeRows, nodeSolved}
 use Rattle.rules.proofs.Lists.{part-inside}
-use Rattle.block.proofs.Cells.{next-part}
+use Rattle.rules.proofs.Cells.{next-part}
 use Rattle.block.proofs.Nodes.{length-entries, length-node-rows, length-solved}
-use Rattle.block.proofs.Parts.{Parted, none, kept, step, own, later}
+use Rattle.rules.proofs.Parts.{Parted, none, kept, step, own, later}
 use Rattle.block.proofs.Pivots.{every-more}
 use Rattle.block.proofs.factor_nodes.Statement.{statement}
 use Rattle.block.proofs.factor_nodes.Tie as tie

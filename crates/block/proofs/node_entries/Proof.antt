@@ -5,7 +5,7 @@ use Prim.Native.Nat.{ℕ, _+_, _*_, _-_}
 use native.Mathlib.Omega.{arith}
 use borrow.Author.Needs.{needs}
 use lib.ListN.{length}
-use Rattle.block.proofs.Cells.{next-part}
+use Rattle.rules.proofs.Cells.{next-part}
 use Rattle.block.proofs.Nodes.{first-matrix, node-after}
 use Rattle.block.proofs.Transposed.{length-transposed}
 use Rattle.block.proofs.node_entries.Statement.{statement}

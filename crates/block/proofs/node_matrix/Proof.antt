@@ -8,8 +8,8 @@ use Rattle.rules.specs.Solve.{matrix}
 use Rattle.rules.proofs.Lists.{length-listed, part-inside}
 use Rattle.block.specs.Kept.{transposed}
 use Rattle.block.specs.Steps.{nextEntry}
-use Rattle.block.proofs.Parts.{Parted, none, kept, step, whole}
-use Rattle.block.proofs.Cells.{next-part}
+use Rattle.rules.proofs.Parts.{Parted, none, kept, step, whole}
+use Rattle.rules.proofs.Cells.{next-part}
 use Rattle.block.proofs.node_matrix.Statement.{statement}
 use Rattle.block.proofs.node_matrix.Tie as tie
 

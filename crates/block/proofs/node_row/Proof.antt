@@ -6,8 +6,8 @@ use borrow.Author.Needs.{needs}
 use Rattle.block.specs.Kept.{transposed}
 use Rattle.block.specs.Steps.{nextEntry}
 use Rattle.rules.proofs.Lists.{part-inside}
-use Rattle.block.proofs.Cells.{read, cell-inside}
-use Rattle.block.proofs.Fills.{Filled, none, kept, step, whole}
+use Rattle.rules.proofs.Cells.{read, cell-inside}
+use Rattle.rules.proofs.Fills.{Filled, none, kept, step, whole}
 use Rattle.block.proofs.Transposed.{row-times-column}
 use Rattle.block.proofs.node_row.Statement.{statement}
 use Rattle.block.proofs.node_row.Tie as tie

@@ -5,8 +5,8 @@ use native.Mathlib.Omega.{arith}
 use lib.ListN.{length}
 use Rattle.rules.proofs.Lists.{length-listed, part-inside}
 use Rattle.rules.proofs.Build.{length-axis}
-use Rattle.block.proofs.Cells.{next-part}
-use Rattle.block.proofs.Parts.{Parted, none, kept, step, whole}
+use Rattle.rules.proofs.Cells.{next-part}
+use Rattle.rules.proofs.Parts.{Parted, none, kept, step, whole}
 use Rattle.table.specs.Axes.{axisTable}
 use Rattle.thomas.proofs.Parts.{part-size, part-length}
 use Rattle.table.proofs.Sizes.{stride-small, table-small}

@@ -8,7 +8,7 @@ use lib.Ieee.{Float, ofBits}
 use Rattle.rules.specs.Floats.{_⊘_, +1}
 use Rattle.block.specs.Steps.{eliminatedTo}
 use Rattle.rules.proofs.Lists.{part-inside}
-use Rattle.block.proofs.Cells.{entry-read}
+use Rattle.rules.proofs.Cells.{entry-read}
 use Rattle.block.proofs.Elimination.{elimination-start, elimination-all}
 use Rattle.block.proofs.factor.eliminate.Statement.{statement}
 use Rattle.block.proofs.factor.eliminate.Tie as tie

@@ -7,7 +7,7 @@ use lib.Ieee.{eq, ofBits}
 use Rattle.rules.specs.Floats.{+0}
 use Rattle.rules.specs.Lists.{every}
 use Rattle.rules.specs.Solve.{entry, nonzeroPivots}
-use Rattle.block.proofs.Cells.{cell-inside}
+use Rattle.rules.proofs.Cells.{cell-inside}
 use Rattle.block.proofs.Pivots.{every-fails, every-more, pivot-test}
 use Rattle.block.proofs.factor.nonzero_pivots.Statement.{statement}
 use Rattle.block.proofs.factor.nonzero_pivots.Tie as tie

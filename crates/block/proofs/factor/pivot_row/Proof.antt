@@ -6,7 +6,7 @@ use Prim.Native.Nat.{suc, _+_, _*_, _-_, _≤_, _<_}
 use native.Mathlib.Omega.{arith}
 use lib.Ieee.{lt}
 use Rattle.rules.specs.Solve.{pivotRow}
-use Rattle.block.proofs.Cells.{cell-inside}
+use Rattle.rules.proofs.Cells.{cell-inside}
 use Rattle.block.proofs.Pivots.{pivot-step}
 use Rattle.block.proofs.factor.pivot_row.Statement.{statement}
 use Rattle.block.proofs.factor.pivot_row.Tie as tie

@@ -6,8 +6,8 @@ use borrow.Author.Needs.{needs}
 use lib.ListN.{length}
 use Rattle.rules.specs.Floats.{_!_, +0}
 use Rattle.rules.proofs.Filling.{listed-of}
-use Rattle.block.proofs.Cells.{read}
-use Rattle.block.proofs.Fills.{Filled, none, kept, step, whole}
+use Rattle.rules.proofs.Cells.{read}
+use Rattle.rules.proofs.Fills.{Filled, none, kept, step, whole}
 use Rattle.block.proofs.products.copy.Statement.{statement}
 use Rattle.block.proofs.products.copy.Tie as tie
 

@@ -8,7 +8,7 @@ use borrow.Author.Needs.{needs}
 use lib.ListN.{length}
 use Rattle.rules.specs.Floats.{_⊗_, _!_, sumOf}
 use Rattle.rules.proofs.Lists.{part-inside}
-use Rattle.block.proofs.Cells.{read, next-part}
+use Rattle.rules.proofs.Cells.{read, next-part}
 use Rattle.block.proofs.Sums.{sumOf-one, sumOf-more}
 use Rattle.block.proofs.products.dot.Statement.{statement}
 use Rattle.block.proofs.products.dot.Tie as tie

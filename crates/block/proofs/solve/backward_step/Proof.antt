@@ -8,8 +8,8 @@ use borrow.Author.Tests.{lt-ltb, le-ltb, eq-eqb, ne-eqb}
 use lib.Ieee.{Float}
 use lib.ListN.{set, length}
 use Rattle.block.specs.Steps.{found, backwardCell, backwardStep}
-use Rattle.block.proofs.Cells.{read, cell-inside}
-use Rattle.block.proofs.Fills.{Filled, none, kept, step, left, on, whole}
+use Rattle.rules.proofs.Cells.{read, cell-inside}
+use Rattle.rules.proofs.Fills.{Filled, none, kept, step, left, on, whole}
 use Rattle.block.proofs.solve.backward_step.Statement.{statement}
 use Rattle.block.proofs.solve.backward_step.Tie as tie
 

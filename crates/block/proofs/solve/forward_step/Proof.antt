@@ -6,8 +6,8 @@ use borrow.Author.Needs.{needs}
 use borrow.Author.Tests.{le-leb, lt-leb}
 use lib.ListN.{length}
 use Rattle.block.specs.Steps.{forwardCell, forwardStep}
-use Rattle.block.proofs.Cells.{read, cell-inside}
-use Rattle.block.proofs.Fills.{Filled, start, kept, step, left, whole}
+use Rattle.rules.proofs.Cells.{read, cell-inside}
+use Rattle.rules.proofs.Fills.{Filled, start, kept, step, left, whole}
 use Rattle.block.proofs.solve.forward_step.Statement.{statement}
 use Rattle.block.proofs.solve.forward_step.Tie as tie
 

@@ -5,8 +5,8 @@ use native.Mathlib.Omega.{arith}
 use borrow.Author.Needs.{needs}
 use lib.ListN.{length, getD}
 use Rattle.rules.specs.Floats.{_!_}
-use Rattle.block.proofs.Fills.{Filled, none, kept, step, whole}
-use Rattle.block.proofs.Cells.{read}
+use Rattle.rules.proofs.Fills.{Filled, none, kept, step, whole}
+use Rattle.rules.proofs.Cells.{read}
 use Rattle.block.proofs.solve.permuted.Statement.{statement}
 use Rattle.block.proofs.solve.permuted.Tie as tie
 

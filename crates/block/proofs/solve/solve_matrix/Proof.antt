@@ -8,9 +8,9 @@ use Rattle.rules.specs.Solve.{solve, column}
 use Rattle.rules.proofs.Solve.{length-solve}
 use Rattle.block.specs.Kept.{transposed}
 use Rattle.rules.proofs.Lists.{part-inside}
-use Rattle.block.proofs.Cells.{next-part}
+use Rattle.rules.proofs.Cells.{next-part}
 use Rattle.block.proofs.Columns.{part-column, solved-columns}
-use Rattle.block.proofs.Parts.{Parted, none, kept, step, whole}
+use Rattle.rules.proofs.Parts.{Parted, none, kept, step, whole}
 use Rattle.block.proofs.solve.solve_matrix.Statement.{statement}
 use Rattle.block.proofs.solve.solve_matrix.Tie as tie
 

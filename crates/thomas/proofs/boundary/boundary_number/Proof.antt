@@ -12,7 +12,7 @@ use Rattle.rules.specs.declared.BoundaryState.{BoundaryState}
 use Rattle.rules.specs.declared.BoundaryState.the-variants.{Given}
 use Rattle.rules.specs.Floats.{_!_}
 use Rattle.rules.specs.Build.{divided, boundaryNumber}
-use Rattle.block.proofs.Cells.{read}
+use Rattle.rules.proofs.Cells.{read}
 use Rattle.thomas.specs.Kept.{HasNumbers}
 use borrow.Author.Needs.{needs}
 use Rattle.thomas.proofs.boundary.boundary_number.Statement.{statement}

@@ -9,7 +9,7 @@ use lib.Ieee.{Float}
 use Rattle.rules.specs.Solve.{times, minus, solvedC}
 use Rattle.block.specs.Kept.{transposed}
 use Rattle.block.proofs.Transposed.{transposed-twice}
-use Rattle.block.proofs.Cells.{next-part}
+use Rattle.rules.proofs.Cells.{next-part}
 use Rattle.thomas.proofs.Back.{length-solvedC}
 use Rattle.thomas.proofs.Parts.{part-size}
 use Rattle.thomas.specs.Axis.{put}

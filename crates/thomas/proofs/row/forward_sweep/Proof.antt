@@ -13,8 +13,8 @@ use Rattle.rules.specs.Build.{dy, solvedSide}
 use Rattle.rules.specs.Solve.{solve, nodeFactors}
 use Rattle.rules.proofs.Lists.{part-inside}
 use Rattle.rules.proofs.Build.{length-solvedSide}
-use Rattle.block.proofs.Cells.{next-part}
-use Rattle.block.proofs.Parts.{Parted, none, kept, step, part-at}
+use Rattle.rules.proofs.Cells.{next-part}
+use Rattle.rules.proofs.Parts.{Parted, none, kept, step, part-at}
 use Rattle.thomas.specs.Axis.{axisPoints}
 use Rattle.thomas.proofs.Nodes.{points-dy, point-inside}
 use Rattle.thomas.proofs.Node.{node-at}

@@ -10,8 +10,8 @@ use lib.Ieee.{Float}
 use Rattle.rules.specs.Build.{segmentCoefficients}
 use Rattle.rules.proofs.Build.{length-segment}
 use Rattle.rules.proofs.Lists.{part-inside}
-use Rattle.block.proofs.Cells.{cell-inside, next-part}
-use Rattle.block.proofs.Parts.{Parted, none, kept, step, whole}
+use Rattle.rules.proofs.Cells.{cell-inside, next-part}
+use Rattle.rules.proofs.Parts.{Parted, none, kept, step, whole}
 use Rattle.thomas.specs.Axis.{axisPoints, nodePart, segmentOf}
 use Rattle.thomas.proofs.Nodes.{length-part, points-at, points-dy}
 use borrow.Author.Needs.{needs}

@@ -10,7 +10,7 @@ use lib.Ieee.{Float, nan}
 use Rattle.rules.specs.Floats.{_⊗_, _⊕_, _!_, +0}
 use Rattle.rules.specs.Solve.{entry}
 use Rattle.rules.proofs.Filling.{filled, filled-none, filled-set, filled-all}
-use Rattle.block.proofs.Cells.{read}
+use Rattle.rules.proofs.Cells.{read}
 use borrow.Author.Needs.{needs}
 use Rattle.thomas.proofs.segment.compute_rhs.Statement.{statement}
 use Rattle.thomas.proofs.segment.compute_rhs.Tie as tie

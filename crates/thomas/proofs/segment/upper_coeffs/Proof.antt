@@ -3,8 +3,8 @@ use Prim.Native.Nat.{_+_, _-_, _*_, _≤_}
 use native.Mathlib.Omega.{arith}
 use Rattle.rules.specs.Build.{upperCoefficient}
 use Rattle.rules.proofs.Lists.{part-inside}
-use Rattle.block.proofs.Cells.{read}
-use Rattle.block.proofs.Fills.{Filled, none, kept, step, whole}
+use Rattle.rules.proofs.Cells.{read}
+use Rattle.rules.proofs.Fills.{Filled, none, kept, step, whole}
 use Rattle.thomas.proofs.Upper.{upper-is}
 use borrow.Author.Needs.{needs}
 use Rattle.thomas.proofs.segment.upper_coeffs.Statement.{statement}

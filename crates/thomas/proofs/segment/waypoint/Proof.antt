@@ -1,6 +1,6 @@
 -- `thomas::segment::waypoint` meets its contract. Assumes nothing.
 use Prim.Native.Nat.{_+_, _*_}
-use Rattle.block.proofs.Cells.{read}
+use Rattle.rules.proofs.Cells.{read}
 use borrow.Author.Needs.{needs}
 use Rattle.thomas.proofs.segment.waypoint.Statement.{statement}
 use Rattle.thomas.proofs.segment.waypoint.Tie as tie

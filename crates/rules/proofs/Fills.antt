@@ -5,10 +5,10 @@ use Prim.Native.Nat.{ℕ, _+_, _≤_, _<_}
 use native.Mathlib.Omega.{arith}
 use lib.ListN.{length, getD, set}
 use lib.Ieee.{Float, nan}
 use Rattle.rules.specs.Floats.{_!_, +0}
 use Rattle.rules.specs.Lists.{listed}
 use Rattle.rules.proofs.Filling.{filled, filled-none, filled-set, filled-all, filled-past, filled-start, filled-on, length-filled}
-use Rattle.block.proofs.Cells.{read}
+use Rattle.rules.proofs.Cells.{read}
 
 pub record Filled (i : ℕ) (f : ℕ → Float) (xs ys : List Float) : Type 0 where
   pub inside : i ≤ length xs

@@ -6,10 +6,10 @@ use native.Mathlib.Nat.{zero-mul}
 use native.Mathlib.Omega.{arith}
 use lib.ListN.{length, take, drop, drop-of-length-le}
 use lib.Seq.{drop-at, drop-drop}
 use Rattle.rules.specs.Lists.{joined}
 use Rattle.rules.proofs.Lists.{length-joined}
 use Rattle.rules.proofs.Filling.{parts, parts-none, parts-set, parts-at, length-parts}
-use Rattle.block.proofs.Cells.{next-part}
+use Rattle.rules.proofs.Cells.{next-part}
 
 pub record Parted {A : Type 0} (k i : ℕ) (f : ℕ → List A) (xs ys : List A) : Type 0 where
   pub sized : (j : ℕ) → length (f j) ≡ k
