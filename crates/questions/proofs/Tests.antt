@@ -1,6 +1,6 @@
 -- Answers and tests: what an answered question says of the definition's test, and the test for a finite number. Assumes nothing.
 use mathlib.Core.Path.{_≡_, refl, sym, _∙_}
-use mathlib.Core.Bool.{Bool, true, false, not}
+use mathlib.Core.Bool.{Bool, true, false, not, _&&_}
 use lib.Ieee.{Float, nan, inf, fin, binary64, sub, eq, ofBits}
 use lib.Ieee.Scale as scale
 use borrow.Author.Tests.{not-true, not-false}
@@ -13,6 +13,13 @@ no {b} {r} e h = sym e ∙ not-true r h
 
 pub yes : {b r : Bool} → r ≡ b → not r ≡ false → b ≡ true
 yes {b} {r} e h = sym e ∙ not-false r h
+
+-- tests one after the other: where the first say yes, the last decides
+pub both : {a b : Bool} → a ≡ true → b ≡ true → (a && b) ≡ true
+both e f = rw (e, f)
+
+pub last-decides : {a b r : Bool} → a ≡ true → r ≡ b → r ≡ (a && b)
+last-decides e f = rw (e, f)
 
 same-finite : (x : Float) → scale.finite x ≡ finite x
 same-finite nan = refl

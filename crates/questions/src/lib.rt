@@ -1,16 +1,23 @@
 // Document 01's questions before a build, 1 to 9: those that are asked of what a caller gives. (Question
 // 10, whether every pivot is other than zero, is answered by factoring; see the crate `table`.) They
-// look at the coefficient buffer's length alone, so that they can be asked without a buffer.
+// look at the coefficient buffer's length alone, so that they can be asked without a buffer. And its
+// questions before a query, all but the last, which the lookup answers; see the crate `query`.
 ghost use mathlib.Core.Path.{_≡_};
+ghost use mathlib.Core.Bool.{_&&_};
+ghost use mathlib.Core.List.{List};
 ghost use Prim.Native.Nat.{_≤_};
-ghost use lib.ListN.{take};
+ghost use lib.ListN.{length, take};
+ghost use lib.Ieee.{Float};
 ghost use Rattle.rules.specs.Floats.{finite};
 ghost use Rattle.rules.specs.Lists.{all};
 ghost use Rattle.rules.specs.Questions.{firstNo};
 ghost use Rattle.rules.specs.Build.{validOrder, validState, validRange, invDs, finiteState, buildQuestions};
-ghost use Rattle.questions.specs.Input.{inputOf};
+ghost use Rattle.rules.specs.Query.{validLevel, validLength, queryQuestions};
+ghost use Rattle.rules.specs.declared.PathParam as Declared;
+ghost use Rattle.questions.specs.Input.{inputOf, queryOf};
 use rules::BoundaryState;
 use rules::PathParam;
+use rules::PathRecord;
 use rules::SplineConfig;
 
 // The number is neither NaN nor an infinity: x − x is 0 for every other.
@@ -171,6 +178,96 @@ pub fn build_questions(
     }
     if !finite_state(end_state, end) {
         return 4; // question 9, of the end
+    }
+    0 // every question says yes
+}
+
+// The level is 0, 2 or 3.
+fn valid_level(level: u8) -> bool
+    ensures { λ r. ⌜ r ≡ validLevel level ⌝ }
+{
+    if level == 0 {
+        return true;
+    }
+    if level == 2 {
+        return true;
+    }
+    level == 3
+}
+
+// The buffer of derivative k: as long as the axes, or of any length where the level does not write it.
+fn valid_length(axes: usize, level: u8, k: u8, cells: usize) -> bool
+    ensures { λ r. ⌜ r ≡ validLength axes level k cells ⌝ }
+{
+    if level < k {
+        return true;
+    }
+    cells == axes
+}
+
+// The buffers of all four.
+fn valid_lengths(axes: usize, level: u8, q: usize, dq: usize, ddq: usize, dddq: usize) -> bool
+    ensures { λ r. ⌜ r ≡ (validLength axes level 0 q && validLength axes level 1 dq && validLength axes level 2 ddq && validLength axes level 3 dddq) ⌝ }
+{
+    if !valid_length(axes, level, 0, q) {
+        return false;
+    }
+    if !valid_length(axes, level, 1, dq) {
+        return false;
+    }
+    if !valid_length(axes, level, 2, ddq) {
+        return false;
+    }
+    valid_length(axes, level, 3, dddq)
+}
+
+// The number of the first no, and 0 where all but the last question say yes, whatever s and the coefficients are.
+pub fn query_questions(
+    path: PathRecord,
+    cells: usize,
+    level: u8,
+    q: usize,
+    dq: usize,
+    ddq: usize,
+    dddq: usize,
+) -> u32
+    ensures { λ r. ⌜ ((coefficients : List Float) (s : Declared.PathParam) → length coefficients ≡ cells → r ≡ firstNo (take 8 (queryQuestions (queryOf path coefficients s level) (record { q = q; dq = dq; ddq = ddq; dddq = dddq })))) ⌝ }
+{
+    let order = path.order;
+    let segments = path.segments;
+    let axes = path.axes;
+    let inv = path.inv_ds;
+    let s_min = path.s_min;
+    let s_max = path.s_max;
+    if !valid_order(order) {
+        return 302;
+    }
+    if segments < 1 {
+        return 304;
+    }
+    if 256 < segments {
+        return 2;
+    }
+    if axes < 1 {
+        return 300; // too few
+    }
+    if 8 < axes {
+        return 300; // too many
+    }
+    if !valid_range(segments, s_min, s_max) {
+        return 301; // the range
+    }
+    if inv != inv_ds(segments, s_min, s_max) {
+        return 301; // not the range's quotient
+    }
+    if cells != axes * segments * (order + 1) {
+        return 303;
+    }
+    if !valid_level(level) {
+        return 308;
+    }
+    if !valid_lengths(axes, level, q, dq, ddq, dddq) {
+        return 2;
     }
     0 // every question says yes
 }

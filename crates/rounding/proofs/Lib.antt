@@ -1,7 +1,9 @@
 pub mod Numbers
+pub mod NotNan
 pub mod Sticky
 pub mod Pattern
 pub mod Sums
 pub mod Word
 pub mod Values
 pub mod Whole
+pub mod Held

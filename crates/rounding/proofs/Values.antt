@@ -114,6 +114,12 @@ value-scaled nan s a c d v = v
 value-scaled (inf t) s a c d v = v
 value-scaled (fin t m e) s a c d (same, v) = (same, sym (mul-assoc (m * up e) c d) ∙ ap (λ (x : ℕ). x * d) v ∙ mul-right-comm a (down e) d)
 
+pub neg-value : (x : Float) (s : Bool) (a c : ℕ) → HasValue x s a c → HasValue (neg x) (not s) a c
+unfolding neg
+neg-value nan s a c v = v
+neg-value (inf t) s a c v = v
+neg-value (fin t m e) s a c (i, v) = (ap not i, v)
+
 pub add-values : (f : Format) (x y : Float) (s : Bool) (a : ℕ) (t : Bool) (b c : ℕ) → 0 < c → HasValue x s a c → HasValue y t b c → add f x y ≡ sum f s a t b c
 unfolding add
 add-values f nan y s a t b c p v w = absurd v
@@ -160,15 +166,18 @@ power-times f u p t s h k l o v w =
     (sym (mul-values f u p t h 1 s (2 ^ k) (2 ^ low f) (zero-lt-suc 0) (pow-pos (low f)) v w ∙ ap (round f (unlike t s) (h * 2 ^ k)) (one-mul (2 ^ low f))))
     (round-exact f (unlike t s) (h * 2 ^ k) (2 ^ low f) h k (pow-pos (low f)) l o refl)
 
--- ---- the test for a finite value
+-- ---- x − x
+
+pub sub-self : (f : Format) (s : Bool) (m : ℕ) (e : ℤ) → sub f (fin s m e) (fin s m e) ≡ fin false 0 (pos 0)
+unfolding sub neg
+sub-self f s m e =
+    add-values f (fin s m e) (fin (not s) m e) s (m * up e) (not s) (m * up e) (down e) (down-pos e) (refl, refl) (refl, refl)
+    ∙ sum-none f s (m * up e) (down e)
+    ∙ round-zero f false (down e)
 
 pub finite-test : (x : Float) → eq (sub binary64 x x) (ofBits binary64 0) ≡ finite x
 unfolding sub neg add eq ofBits
 finite-test nan = refl
 finite-test (inf true) = refl
 finite-test (inf false) = refl
-finite-test (fin s m e) =
-    ap (λ (z : Float). eq z (ofBits binary64 0))
-    (add-values binary64 (fin s m e) (fin (not s) m e) s (m * up e) (not s) (m * up e) (down e) (down-pos e) (refl, refl) (refl, refl)
-    ∙ sum-none binary64 s (m * up e) (down e)
-    ∙ round-zero binary64 false (down e))
+finite-test (fin s m e) = ap (λ (z : Float). eq z (ofBits binary64 0)) (sub-self binary64 s m e)

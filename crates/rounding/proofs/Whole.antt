@@ -18,7 +18,7 @@ use Rattle.integers.proofs.Signs.{natAbs-signed, signed-not, signed-add, signed
 use Rattle.rounding.specs.Whole.{isWhole, wholeOf}
 use Rattle.rounding.proofs.Numbers.{less-or-not}
 use Rattle.rounding.proofs.Sums.{by-signs, sum-like, sum-more, sum-less, sum-none}
-use Rattle.rounding.proofs.Values.{add-values, mul-values}
+use Rattle.rounding.proofs.Values.{neg-value, add-values, mul-values}
 
 -- x has the sign, and the size over 1, of the whole number z
 pub record HasWhole (x : Float) (z : ℤ) : Type 0 where
@@ -59,13 +59,12 @@ has-whole (fin s m e) t = record {
 -- ---- the operations
 
 pub neg-whole : {x : Float} {z : ℤ} → HasWhole x z → HasWhole (neg x) (negℤ z)
-unfolding neg
-neg-whole {x} {z} p = record { sign = not (p .sign); size = p .size; value = value x (p .sign) (p .size) (p .value); number = signed-not (p .sign) (p .size) ∙ ap negℤ (p .number) }
-  where
-    value : (x : Float) (s : Bool) (n : ℕ) → HasValue x s n 1 → HasValue (neg x) (not s) n 1
-    value nan s n v = v
-    value (inf t) s n v = v
-    value (fin t m e) s n (i, v) = (ap not i, v)
+neg-whole {x} {z} p = record {
+  sign = not (p .sign);
+  size = p .size;
+  value = neg-value x (p .sign) (p .size) 1 (p .value);
+  number = signed-not (p .sign) (p .size) ∙ ap negℤ (p .number);
+}
 
 module _ (f : Format) where
   -- what is rounded from a whole number within 2 ^ prec is that number

@@ -3,6 +3,7 @@ pub mod Filling
 pub mod Cells
 pub mod Fills
 pub mod Parts
+pub mod Lent
 pub mod Questions
 pub mod Solve
 pub mod Build

@@ -1,6 +1,6 @@
 -- A query keeps the length of each buffer, whatever it is given: `keeps-length`. And it reads what a build wrote: the coefficients that it takes from a
 -- table for a segment of an axis are that segment's, `read-back`. Assumes nothing.
-use mathlib.Core.Path.{_≡_, refl, sym, ap₂, _∙_}
+use mathlib.Core.Path.{_≡_, refl, sym, ap₂, _∙_, subst}
 use mathlib.Core.Bool.{Bool, true, false, cond, not, _&&_, _||_}
 use mathlib.Core.List.{List}
 use Prim.Native.Nat.{ℕ, zero, suc, _+_, _*_, _-_, _<_, _≤_}
@@ -49,6 +49,10 @@ module _ (i : QueryInput) (n : Lengths) where
   written : (w : Bool) (cells : ℕ) → T w → T (not w || eqb cells (i .path .axes)) → cells ≡ i .path .axes
   written true cells t v = eqb→eq cells (i .path .axes) v
   written false cells t v = absurd t
+
+  -- the eighth question: a buffer that the level writes is as long as the axes
+  pub long-enough : T (three && valid 3 (n .dddq)) → (k : ℕ) → k ≤ 3 → writes (i .level) k ≡ true → lengthOf n k ≡ i .path .axes
+  long-enough t k h w = written (writes (i .level) k) (lengthOf n k) (subst T (sym w) tt) (each t k h)
 
   length-derivative : (k : ℕ) → length (derivative i k) ≡ i .path .axes
   unfolding derivative

@@ -2,7 +2,6 @@ pub mod Back
 pub mod Matrices
 pub mod Node
 pub mod Nodes
-pub mod Parts
 pub mod Segments
 pub mod Sides
 pub mod States

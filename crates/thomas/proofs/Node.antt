@@ -13,7 +13,7 @@ use Rattle.block.proofs.Factors.{length-rows, rows-below}
 use Rattle.rules.proofs.Parts.{Parted, kept, part-at}
 use Rattle.block.proofs.Nodes.{length-entries, length-node-rows, length-solved}
 use Rattle.thomas.specs.Axis.{NodeFactors, NodeSolved, NodeAt}
-use Rattle.thomas.proofs.Parts.{part-size, part-length}
+use Rattle.rules.proofs.Lent.{part-size, part-length}
 
 module _ {m i : ℕ} {entries : List Float} {rows : List ℕ} (h : NodeAt m i entries rows) where
   pub entries-part : take (i * (m * m) + m * m - i * (m * m)) (drop (i * (m * m)) entries) ≡ nodeFactors m i .entries

@@ -2,7 +2,7 @@
 use Prim.Native.Nat.{_+_, _≤_}
 use native.Mathlib.Omega.{arith}
 use Rattle.thomas.proofs.Matrices.{a-room, b-room, c-room, r-room, h-room, lent}
-use Rattle.thomas.proofs.Parts.{start-length}
+use Rattle.rules.proofs.Lent.{start-length}
 use Rattle.table.proofs.Sizes.{matrix-small, upper-small}
 use borrow.Author.Needs.{needs}
 use Rattle.table.proofs.factor_and_fill.Statement.{statement}

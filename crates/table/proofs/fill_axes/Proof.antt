@@ -8,7 +8,7 @@ use Rattle.rules.proofs.Build.{length-axis}
 use Rattle.rules.proofs.Cells.{next-part}
 use Rattle.rules.proofs.Parts.{Parted, none, kept, step, whole}
 use Rattle.table.specs.Axes.{axisTable}
-use Rattle.thomas.proofs.Parts.{part-size, part-length}
+use Rattle.rules.proofs.Lent.{part-size, part-length}
 use Rattle.table.proofs.Sizes.{stride-small, table-small}
 use borrow.Author.Needs.{needs}
 use Rattle.table.proofs.fill_axes.Statement.{statement}

@@ -4,7 +4,7 @@ use lib.Ieee.{Float}
 use Rattle.rules.specs.Lists.{listed}
 use Rattle.rules.specs.Build.{boundaryNumber}
 use Rattle.rules.proofs.Lists.{length-listed}
-use Rattle.thomas.proofs.Parts.{both-halves}
+use Rattle.rules.proofs.Lent.{both-halves}
 use borrow.Author.Needs.{needs}
 use Rattle.thomas.proofs.boundary.both_ends.Statement.{statement}
 use Rattle.thomas.proofs.boundary.both_ends.Tie as tie

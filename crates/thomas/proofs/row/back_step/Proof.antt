@@ -11,7 +11,7 @@ use Rattle.block.specs.Kept.{transposed}
 use Rattle.block.proofs.Transposed.{transposed-twice}
 use Rattle.rules.proofs.Cells.{next-part}
 use Rattle.thomas.proofs.Back.{length-solvedC}
-use Rattle.thomas.proofs.Parts.{part-size}
+use Rattle.rules.proofs.Lent.{part-size}
 use Rattle.thomas.specs.Axis.{put}
 use borrow.Author.Needs.{needs}
 use Rattle.thomas.proofs.row.back_step.Statement.{statement}

@@ -3,7 +3,7 @@ use mathlib.Core.Path.{ap, _∙_}
 use native.Mathlib.Nat.{sub-zero}
 use native.Mathlib.Omega.{arith}
 use lib.ListN.{length, take, drop}
-use Rattle.thomas.proofs.Parts.{part-size, part-length}
+use Rattle.rules.proofs.Lent.{part-size, part-length}
 use Rattle.thomas.proofs.Sides.{a-long, c-long, bounded-is}
 use borrow.Author.Needs.{needs}
 use Rattle.thomas.proofs.row.bounded_side.Statement.{statement}

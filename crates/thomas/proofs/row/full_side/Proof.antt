@@ -6,7 +6,7 @@ use lib.ListN.{length, take, drop}
 use Rattle.rules.specs.Tables.{A}
 use Rattle.rules.specs.Build.{boundedSide, solvedSide}
 use Rattle.thomas.specs.Axis.{part}
-use Rattle.thomas.proofs.Parts.{part-size, part-length}
+use Rattle.rules.proofs.Lent.{part-size, part-length}
 use Rattle.thomas.proofs.Sides.{a-long, a-rows, past-first}
 use borrow.Author.Needs.{needs}
 use Rattle.thomas.proofs.row.full_side.Statement.{statement}

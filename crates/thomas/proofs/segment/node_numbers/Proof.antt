@@ -6,7 +6,7 @@ use native.Mathlib.Omega.{arith}
 use Rattle.rules.proofs.Lists.{part-inside}
 use Rattle.thomas.specs.Axis.{nodePart}
 use Rattle.thomas.proofs.Nodes.{last-part, inner-part}
-use Rattle.thomas.proofs.Parts.{part-size}
+use Rattle.rules.proofs.Lent.{part-size}
 use borrow.Author.Needs.{needs}
 use Rattle.thomas.proofs.segment.node_numbers.Statement.{statement}
 use Rattle.thomas.proofs.segment.node_numbers.Tie as tie

@@ -1,0 +1,138 @@
+-- `query::eval_at` meets its contract. Its three ways out are a no to one of the questions before the lookup, an s that the lookup refuses, and a yes to all.
+-- Assumes nothing.
+use mathlib.Core.Path.{_≡_, refl, sym, ap, _∙_, subst}
+use mathlib.Core.Bool.{Bool, true, cond}
+use mathlib.Core.List.{List}
+use Prim.Native.Nat.{ℕ, _<_}
+use native.Mathlib.Omega.{arith}
+use borrow.Author.Needs.{needs}
+use borrow.Author.Tests.{le-leb}
+use lib.Ieee.{Float}
+use Rattle.rules.specs.declared.SegmentUnits.{SegmentUnits}
+use Rattle.rules.specs.declared.Lookup.the-variants.{At}
+use Rattle.rules.specs.Query.{QueryInput, Lengths, writes, lookup, LookupSays, lookupSays, queryNumber, derivativeAfter}
+use Rattle.query.specs.Axes.{derivativeAt}
+use Rattle.questions.specs.Input.{queryOf, lengthsOf}
+use Rattle.query.proofs.Answered as Answered
+use Rattle.query.proofs.Answered.{range, in-range, out-of-range, segment-known, no-number, range-number, yes-number, refused, served, segments-known, evaluable, derivative-at}
+use Rattle.query.proofs.eval_at.Statement.{statement}
+use Rattle.query.proofs.eval_at.Tie as tie
+
+-- a place behind the questions, and what the query was given there
+abbrev Place : Type 0
+Place = tie.After-query-questions
+
+abbrev start : Place → tie.Start
+start p = p .before .before .before .before .before .before
+
+abbrev given : Place → QueryInput
+given p = let a = start p .args in queryOf (a .path) (a .coeffs .now) (a .s) (a .level)
+
+abbrev lengths : Place → Lengths
+lengths p = let a = start p .args in lengthsOf (a .q .now) (a .dq .now) (a .ddq .now) (a .dddq .now)
+
+answer : (p : Place) → p .query-questions .result ≡ Answered.asked (given p) (lengths p)
+answer p = p .query-questions .ensures (start p .args .coeffs .now) (start p .args .s) refl
+
+said-yes : (c : tie.Else1) → Answered.asked (given (c .before)) (lengths (c .before)) ≡ 0
+said-yes c = sym (answer (c .before)) ∙ c .if1 .left
+
+-- behind the lookup: the segment and tau that it answered
+abbrev segment : tie.After-segment → ℕ
+segment c = c .segment .given .0 .0
+
+abbrev tau : tie.After-segment → SegmentUnits
+tau c = c .segment .given .0 .1 .0
+
+abbrev asked-at : tie.After-segment → Place
+asked-at c = c .before .before .before .before
+
+found : (c : tie.After-segment) → let i = given (asked-at c) in lookupSays (lookup (i .path) (i .s)) ≡ lookupSays (At (segment c) (tau c))
+found c = sym (c .before .before .segment-tau .ensures) ∙ ap lookupSays (c .segment .given .1)
+
+inside : (c : tie.After-segment) → let i = given (asked-at c) in range (i .path) (i .s) ≡ true
+unfolding lookupSays
+inside c = let i = given (asked-at c) in in-range (i .path) (i .s) (ap (λ (says : LookupSays). says .number) (found c))
+
+query-questions-requires : tie.Need-query-questions-requires
+query-questions-requires c κs = search needs
+
+returns : tie.Need-returns
+returns c =
+    let p = c .before in
+    let a = start p .args in
+    let is : queryNumber (given p) (lengths p) ≡ p .query-questions .result = no-number (given p) (lengths p) (λ e. c .if1 .taken (answer p ∙ e)) ∙ sym (answer p) in
+    let same = refused (given p) (lengths p) (p .query-questions .result) (c .if1 .taken) is in
+    (sym is, sym (same 0 (a .q .now)), sym (same 1 (a .dq .now)), sym (same 2 (a .ddq .now)), sym (same 3 (a .dddq .now)))
+
+segment-tau-requires : tie.Need-segment-tau-requires
+segment-tau-requires c κs = segments-known (given (c .before)) (lengths (c .before)) (said-yes c)
+
+enum-told : tie.Need-enum-told
+enum-told c = search needs
+
+enum-known-segment : tie.Need-enum-known-segment
+enum-known-segment c = search needs
+
+eval-level-requires : tie.Need-eval-level-requires
+unfolding lookupSays
+eval-level-requires c κs =
+    let f = c .before .before .before .before .before in
+    let p = asked-at f in
+    let i = given p in
+    let e = said-yes (f .before .before .before) in
+    let (some, few, range) = segments-known i (lengths p) e in
+    evaluable i (lengths p) e (segment f) (subst (λ (found : ℕ). found < i .path .segments) (ap (λ (says : LookupSays). says .segment) (found f)) (segment-known (i .path) (i .s) some few range (inside f)))
+
+returns-2 : tie.Need-returns-2
+unfolding lookupSays
+returns-2 c =
+    let l = c .before .before in
+    let p = l .before .before in
+    let a = start p .args in
+    let says : lookupSays (lookup (a .path) (a .s)) .number ≡ 305 = ap (λ (says : LookupSays). says .number) (sym (l .segment-tau .ensures) ∙ ap lookupSays (c .enum-told .given .1)) in
+    let is : queryNumber (given p) (lengths p) ≡ 305 = range-number (given p) (lengths p) (said-yes (l .before)) (out-of-range (a .path) (a .s) says) in
+    let same = refused (given p) (lengths p) 305 (λ e. omega arith) is in
+    (sym is, sym (same 0 (a .q .now)), sym (same 1 (a .dq .now)), sym (same 2 (a .ddq .now)), sym (same 3 (a .dddq .now)))
+
+same-length : tie.Need-same-length
+same-length c = search needs
+
+same-length-2 : tie.Need-same-length-2
+same-length-2 c = search needs
+
+same-length-3 : tie.Need-same-length-3
+same-length-3 c = search needs
+
+same-length-4 : tie.Need-same-length-4
+same-length-4 c = search needs
+
+returns-3 : tie.Need-returns-3
+returns-3 c =
+    let l = c .before .before .before .before .before .before .before .before in
+    let f = l .before .before .before .before .before .before in
+    let p = asked-at f in
+    let i = given p in
+    let is : queryNumber i (lengths p) ≡ 0 = yes-number i (lengths p) (said-yes (f .before .before .before)) (inside f) in
+    let written : (k : ℕ) (before : List Float) → cond (writes (i .level) k) (derivativeAt (i .path) (i .coefficients) (segment f) (tau f .0) k) before ≡ derivativeAfter i (lengths p) k before =
+    λ k before. ap (λ (xs : List Float). cond (writes (i .level) k) xs before) (sym (derivative-at i (segment f) (tau f) (found f) k)) ∙ sym (served i (lengths p) is k before) in
+    let h = l .eval-level .ensures in
+    let always : writes (i .level) 0 ≡ true = le-leb 0 (i .level) (omega arith) in
+    (sym is, h .is-q ∙ ap (λ (w : Bool). cond w (derivativeAt (i .path) (i .coefficients) (segment f) (tau f .0) 0) (start p .args .q .now)) (sym always) ∙ written 0 (start p .args .q .now), h .is-dq ∙ written 1 (start p .args .dq .now), h .is-ddq ∙ written 2 (start p .args .ddq .now), h .is-dddq ∙ written 3 (start p .args .dddq .now))
+
+pub eval-at-spec : {M : Type 1} → statement M
+eval-at-spec =
+    tie.close
+    (tie.spec
+    query-questions-requires
+    returns
+    segment-tau-requires
+    enum-told
+    enum-known-segment
+    eval-level-requires
+    returns-2
+    same-length
+    same-length-2
+    same-length-3
+    same-length-4
+    returns-3)

@@ -1,0 +1,24 @@
+-- `query::poly::general_step` meets its contract: at each level its numbers are the loop's own. Assumes nothing.
+use mathlib.Core.Path.{_≡_}
+use lib.Ieee.{ofBits, ofInt}
+use Rattle.rules.specs.Query.{generalLoop, loopDerivative}
+use Rattle.query.proofs.Levels.{is-3}
+use Rattle.query.proofs.poly.general_step.Statement.{statement}
+use Rattle.query.proofs.poly.general_step.Tie as tie
+
+returns : tie.Need-returns
+unfolding ofBits generalLoop loopDerivative
+returns c y rest e = rw (e, c .if1 .taken)
+
+returns-2 : tie.Need-returns-2
+unfolding ofBits ofInt generalLoop loopDerivative
+returns-2 c y rest e = rw (e, c .if2 .taken)
+
+returns-3 : tie.Need-returns-3
+unfolding ofBits ofInt generalLoop loopDerivative
+returns-3 c y rest e =
+    let level-is : c .before .before .before .before .before .before .before .before .before .args .level ≡ 3 = search is-3 in
+    rw (e, level-is)
+
+pub general-step-spec : {M : Type 1} → statement M
+general-step-spec = tie.close (tie.spec returns returns-2 returns-3)

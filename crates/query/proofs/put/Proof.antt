@@ -1,0 +1,29 @@
+-- The cell is set exactly where the level writes derivative k. Assumes nothing.
+use Prim.Native.Nat.{_<_}
+use lib.ListN.{length}
+use borrow.Author.Needs.{needs}
+use borrow.Author.Tests.{le-leb, lt-leb}
+use Rattle.query.proofs.put.Statement.{statement}
+use Rattle.query.proofs.put.Tie as tie
+
+-- the cell is inside, where the level writes
+inside : (c : tie.Then1) → c .before .args .axis < length (c .before .args .cells .now)
+inside c = c .before .pre (le-leb _ _ (c .if1 .taken))
+
+mul-cells : tie.Need-mul-cells
+mul-cells c = let h = inside c in search needs
+
+slice-write-cells : tie.Need-slice-write-cells
+slice-write-cells c = inside c
+
+same-length : tie.Need-same-length
+same-length c = search needs
+
+returns : tie.Need-returns
+returns c = rw (le-leb _ _ (c .if1 .taken))
+
+returns-2 : tie.Need-returns-2
+returns-2 c = rw (lt-leb _ _ (c .if1 .left))
+
+pub put-spec : {M : Type 1} → statement M
+put-spec = tie.close (tie.spec mul-cells slice-write-cells same-length returns returns-2)

@@ -1,0 +1,159 @@
+// The evaluation of one segment's coefficients a at t: the position, and the derivatives that a level asks
+// for, in segment units. Those that it does not ask for are 0 and are not worked out.
+ghost use mathlib.Core.Path.{_≡_};
+ghost use mathlib.Core.List.{List, _∷_};
+ghost use Prim.Native.Nat.{_+_};
+ghost use lib.Dec.{T};
+ghost use lib.ListN.{length};
+ghost use lib.Ieee.{Float};
+ghost use Rattle.rules.specs.Build.{validOrder};
+ghost use Rattle.rules.specs.Query.{validLevel, generalLoop, loopDerivative, fusedDerivative, evalPoly};
+ghost use Rattle.query.specs.Level.{asked};
+use fused::mul_add;
+
+// The position, and the first, second and third derivative.
+pub struct Derivatives {
+    pub q: f64,
+    pub dq: f64,
+    pub ddq: f64,
+    pub dddq: f64,
+}
+
+// Order 3, by fused steps.
+fn cubic(level: u8, a: &[f64], t: f64) -> Derivatives
+    requires { ⌜ T (validLevel level) × (length (now a) ≡ 4) ⌝ }
+    ensures { λ r. ⌜ r ≡ asked level (fusedDerivative 3 (now (a .entry)) t) ⌝ }
+{
+    let q = mul_add(mul_add(mul_add(a[3], t, a[2]), t, a[1]), t, a[0]);
+    if level == 0 {
+        return Derivatives {
+            q,
+            dq: 0.0,
+            ddq: 0.0,
+            dddq: 0.0,
+        };
+    }
+    let two = 2.0 * a[2];
+    let six = 6.0 * a[3];
+    let dq = mul_add(mul_add(3.0 * a[3], t, two), t, a[1]);
+    let ddq = mul_add(six, t, two);
+    if level == 2 {
+        return Derivatives {
+            q,
+            dq,
+            ddq,
+            dddq: 0.0,
+        };
+    }
+    Derivatives {
+        q,
+        dq,
+        ddq,
+        dddq: six,
+    }
+}
+
+// Order 5, by fused steps: the position.
+fn quintic_position(a: &[f64], t: f64) -> f64
+    requires { ⌜ length (now a) ≡ 6 ⌝ }
+    ensures { λ r. ⌜ r ≡ fusedDerivative 5 (now (a .entry)) t 0 ⌝ }
+{
+    let upper = mul_add(mul_add(a[5], t, a[4]), t, a[3]);
+    mul_add(mul_add(mul_add(upper, t, a[2]), t, a[1]), t, a[0])
+}
+
+// Order 5, by fused steps.
+fn quintic(level: u8, a: &[f64], t: f64) -> Derivatives
+    requires { ⌜ T (validLevel level) × (length (now a) ≡ 6) ⌝ }
+    ensures { λ r. ⌜ r ≡ asked level (fusedDerivative 5 (now (a .entry)) t) ⌝ }
+{
+    let q = quintic_position(a, t);
+    if level == 0 {
+        return Derivatives {
+            q,
+            dq: 0.0,
+            ddq: 0.0,
+            dddq: 0.0,
+        };
+    }
+    let two = 2.0 * a[2];
+    let six = 6.0 * a[3];
+    let upper = mul_add(mul_add(5.0 * a[5], t, 4.0 * a[4]), t, 3.0 * a[3]);
+    let dq = mul_add(mul_add(upper, t, two), t, a[1]);
+    let ddq = mul_add(
+        mul_add(mul_add(20.0 * a[5], t, 12.0 * a[4]), t, six),
+        t,
+        two,
+    );
+    if level == 2 {
+        return Derivatives {
+            q,
+            dq,
+            ddq,
+            dddq: 0.0,
+        };
+    }
+    let dddq = mul_add(mul_add(60.0 * a[5], t, 24.0 * a[4]), t, six);
+    Derivatives { q, dq, ddq, dddq }
+}
+
+// A step of the general loop, product and sum rounded apart: one coefficient more.
+fn general_step(level: u8, b: Derivatives, t: f64, a: f64) -> Derivatives
+    requires { ⌜ T (validLevel level) ⌝ }
+    ensures { λ r. ⌜ ((y : Float) (rest : List Float) → b ≡ asked level (loopDerivative (generalLoop t (y ∷ rest))) → r ≡ asked level (loopDerivative (generalLoop t (a ∷ (y ∷ rest))))) ⌝ }
+{
+    let q = b.q * t + a;
+    if level == 0 {
+        return Derivatives {
+            q,
+            dq: 0.0,
+            ddq: 0.0,
+            dddq: 0.0,
+        };
+    }
+    let dq = b.dq * t + b.q;
+    let ddq = b.ddq * t + 2.0 * b.dq;
+    if level == 2 {
+        return Derivatives {
+            q,
+            dq,
+            ddq,
+            dddq: 0.0,
+        };
+    }
+    let dddq = b.dddq * t + 3.0 * b.ddq;
+    Derivatives { q, dq, ddq, dddq }
+}
+
+// Order 7, by the general loop.
+fn general(level: u8, a: &[f64], t: f64) -> Derivatives
+    requires { ⌜ T (validLevel level) × (length (now a) ≡ 8) ⌝ }
+    ensures { λ r. ⌜ r ≡ asked level (loopDerivative (generalLoop t (now (a .entry)))) ⌝ }
+{
+    let mut b = Derivatives {
+        q: a[7],
+        dq: 0.0,
+        ddq: 0.0,
+        dddq: 0.0,
+    };
+    let mut k = 7;
+    while 0 < k {
+        k -= 1;
+        b = general_step(level, b, t, a[k]);
+    }
+    b
+}
+
+// A segment's coefficients at t, by its order.
+pub fn eval_poly(order: usize, level: u8, a: &[f64], t: f64) -> Derivatives
+    requires { ⌜ T (validOrder order) × T (validLevel level) × (length (now a) ≡ order + 1) ⌝ }
+    ensures { λ r. ⌜ r ≡ asked level (evalPoly order (now (a .entry)) t) ⌝ }
+{
+    if order == 7 {
+        return general(level, a, t);
+    }
+    if order == 5 {
+        return quintic(level, a, t);
+    }
+    cubic(level, a, t)
+}
