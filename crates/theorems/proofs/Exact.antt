@@ -42,6 +42,14 @@ only-zero : (P : ℕ → Type 0) → P 0 → (i : ℕ) → i < 1 → P i
 only-zero P p zero l = p
 only-zero P p (suc i) l = absurd (omega arith)
 
+-- a coefficient of the first segment of a table
+pub first-segment : (m : ℕ) (xs : List Float) (k : ℕ) → coefficient m (map wholeOf xs) 0 k ≡ wholeOf (xs ! k)
+unfolding wholeOf
+first-segment m xs k = ap (at (map wholeOf xs)) (none-before (2 * m + 2)) ∙ List·getD-map wholeOf xs k +0
+  where
+    none-before : (n : ℕ) → 0 * n + k ≡ k
+    none-before n = rw zero-mul (omega arith)
+
 -- a test that passes, as an equation
 all-within : (xs : List Float) → T (all wholeWithin xs) → all within (map wholeOf xs) ≡ true
 unfolding all wholeWithin
@@ -91,14 +99,8 @@ module _ (order : ℕ) (u v : Float) (left right : List Float) where
 
     coefficient-is : (k : ℕ) → k < 2 * m + 2
         → coefficient m (set .table) 0 k ≡ form (2 * m + 2) (coefficientForm m k) (numbers (wholeOf u) (wholeOf v -ℤ wholeOf u) (set .start) (set .end))
-    unfolding wholeOf
     coefficient-is k l =
-        ap (at (set .table)) (first-segment (2 * m + 2))
-        ∙ List·getD-map wholeOf segment k +0
-        ∙ whole-number (segment ! k) (coefficient-whole k l)
-      where
-        first-segment : (n : ℕ) → 0 * n + k ≡ k
-        first-segment n = rw zero-mul (omega arith)
+        first-segment m segment k ∙ whole-number (segment ! k) (coefficient-whole k l)
 
     equations : Equations set
     equations =

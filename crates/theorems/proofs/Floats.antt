@@ -29,11 +29,11 @@ use Rattle.theorems.proofs.Segment.{numbers, number-left, number-right}
 -- ---- whole numbers within a bound
 
 -- what the test of a number says
-within-test : (x : Float) → T (wholeWithin x) → Within (2 ^ 40) x (wholeOf x)
+pub within-test : (x : Float) → T (wholeWithin x) → Within (2 ^ 40) x (wholeOf x)
 unfolding wholeWithin within
 within-test x t = record { whole = has-whole x (and-l (isWhole x) _ t); bound = leb→le _ _ (and-r (isWhole x) _ t) }
 
-none : HasWhole +0 (pos 0)
+pub none : HasWhole +0 (pos 0)
 none = record { sign = false; size = 0; value = (refl, refl); number = refl }
 
 pub zero-within : T (wholeWithin +0)

@@ -5,3 +5,6 @@ pub mod Tables
 pub mod Segment
 pub mod Floats
 pub mod Exact
+pub mod Derivatives
+pub mod Evaluation
+pub mod Masters

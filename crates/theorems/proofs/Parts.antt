@@ -35,7 +35,7 @@ module _ (b : BuildInput) (cells : ℕ) (accepted : buildNumber b cells ≡ 0) w
   unfolding buildQuestions
   two-points = leb→le 2 (b .points) (said-yes-to 1)
 
-  axis-length : (axis : ℕ) → length (coefficientsOf b axis) ≡ (b .points - 1) * (b .config .order + 1)
+  pub axis-length : (axis : ℕ) → length (coefficientsOf b axis) ≡ (b .points - 1) * (b .config .order + 1)
   unfolding coefficientsOf
   axis-length axis =
       let h : 2 ≤ b .points = two-points in

@@ -7,7 +7,7 @@ use native.Mathlib.Nat.{add-zero, add-suc, not-suc-le-zero}
 use native.Mathlib.Omega.{arith}
 use borrow.Author.Tests.{eq-eqb, ne-eqb}
 use lib.Dec.{eqb}
-use lib.IntN.{ℤ, pos, _+ℤ_, _*ℤ_, +ℤ-idl, +ℤ-idr, +ℤ-assoc, zero-*ℤ, *ℤ-zero}
+use lib.IntN.{ℤ, pos, _+ℤ_, _*ℤ_, +ℤ-idl, +ℤ-idr, +ℤ-comm, +ℤ-assoc, zero-*ℤ, *ℤ-zero}
 use Rattle.integers.proofs.Laws.{+ℤ-swap, one-*ℤ, +ℤ-*ℤ, *ℤ-+ℤ, *ℤ-assoc}
 use Rattle.rules.specs.Master.{sumℤ}
 use Rattle.rules.proofs.Lists.{below-suc}
@@ -40,6 +40,11 @@ unfolding sumℤ
 sum-split n zero f = rw add-zero (sym (+ℤ-idr (sumℤ n f)))
 sum-split n (suc k) f =
     rw add-suc (ap (λ (x : ℤ). x +ℤ f (n + k)) (sum-split n k f) ∙ +ℤ-assoc (sumℤ n f) (sumℤ k (λ j. f (n + j))) (f (n + k)))
+
+pub sum-first : (n : ℕ) (f : ℕ → ℤ) → sumℤ (suc n) f ≡ f 0 +ℤ sumℤ n (λ j. f (suc j))
+unfolding sumℤ
+sum-first zero f = +ℤ-comm (pos 0) (f 0)
+sum-first (suc n) f = ap (λ (x : ℤ). x +ℤ f (suc n)) (sum-first n f) ∙ +ℤ-assoc (f 0) (sumℤ n (λ j. f (suc j))) (f (suc n))
 
 -- ---- linear forms of n numbers x 0, x 1, ..
 

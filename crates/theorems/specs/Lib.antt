@@ -1,2 +1,4 @@
 pub mod Axes
 pub mod Exact
+pub mod Evaluation
+pub mod Masters
