@@ -8,6 +8,7 @@ use Rattle.rules.specs.declared.OutOfRangeMode.the-variants.{Error, Clamp}
 use Rattle.rules.specs.declared.BoundaryState.{BoundaryState}
 use Rattle.rules.specs.declared.BoundaryState.the-variants.{None, Given}
 use Rattle.rules.specs.declared.SplineConfig.{SplineConfig}
+use Rattle.rules.specs.declared.PathRecord.{PathRecord}
 
 -- A state by its kind: 0 is none, 1 is given, 2 is given per unit of s. Any other kind is a state of the largest usize as rows: question 6 says no to it, as no axes that question 4 lets pass are so many.
 unfoldable pub stateOf : ℕ → ℕ → ℕ → BoundaryState
@@ -30,4 +31,16 @@ configOf order lo hi mode start end = record {
   «out_of_range_mode» = modeOf mode;
   «start_state» = start;
   «end_state» = end;
+}
+
+-- order, segments, axes, s_min, s_max, inv_ds, mode
+abbrev pub pathOf : ℕ → ℕ → ℕ → Float → Float → Float → ℕ → PathRecord
+pathOf order segments axes lo hi inv mode = record {
+  order = order;
+  segments = segments;
+  axes = axes;
+  «s_min» = record { 0 = lo };
+  «s_max» = record { 0 = hi };
+  «inv_ds» = inv;
+  mode = modeOf mode;
 }

@@ -8,11 +8,13 @@ ghost use lib.ListN.{length};
 ghost use lib.Ieee.{binary64};
 ghost use Rattle.rules.specs.Fused.{fused};
 ghost use Rattle.rules.specs.Build.{invDs, buildNumber, bufferAfter};
-ghost use Rattle.questions.specs.Input.{inputOf};
-ghost use Rattle.capi.specs.Export.{stateOf, modeOf, configOf};
+ghost use Rattle.rules.specs.Query.{queryNumber, derivativeAfter};
+ghost use Rattle.questions.specs.Input.{inputOf, queryOf, lengthsOf};
+ghost use Rattle.capi.specs.Export.{stateOf, modeOf, configOf, pathOf};
 use rules::BoundaryState;
 use rules::OutOfRangeMode;
 use rules::PathParam;
+use rules::PathRecord;
 use rules::SplineConfig;
 
 // a * b + c with one rounding (document 01, module 1).
@@ -95,4 +97,37 @@ pub extern "C" fn spline_build(
         *inv_ds = answer.path.inv_ds;
     }
     answer.number
+}
+
+// The query (document 01, module 6). Mode 1 is Clamp, any other is Error. The buffers are written where
+// the answer is 0, and of those the ones that the level writes.
+#[no_mangle]
+pub extern "C" fn spline_query(
+    order: usize,
+    segments: usize,
+    axes: usize,
+    s_min: f64,
+    s_max: f64,
+    inv_ds: f64,
+    mode: u8,
+    coeffs: &[f64],
+    s: f64,
+    level: u8,
+    q: &mut [f64],
+    dq: &mut [f64],
+    ddq: &mut [f64],
+    dddq: &mut [f64],
+) -> u32
+    ensures { λ r. ⌜ (let i = queryOf (pathOf order segments axes «s_min» «s_max» «inv_ds» mode) (now (coeffs .entry)) (record { 0 = s }) level in let n = lengthsOf (now (q .entry)) (now (dq .entry)) (now (ddq .entry)) (now (dddq .entry)) in (r ≡ queryNumber i n) × (now (q .exit) ≡ derivativeAfter i n 0 (now (q .entry))) × (now (dq .exit) ≡ derivativeAfter i n 1 (now (dq .entry))) × (now (ddq .exit) ≡ derivativeAfter i n 2 (now (ddq .entry))) × (now (dddq .exit) ≡ derivativeAfter i n 3 (now (dddq .entry)))) ⌝ }
+{
+    let path = PathRecord {
+        order,
+        segments,
+        axes,
+        s_min: PathParam(s_min),
+        s_max: PathParam(s_max),
+        inv_ds,
+        mode: mode_of(mode),
+    };
+    query::eval_at(path, coeffs, PathParam(s), level, q, dq, ddq, dddq)
 }
