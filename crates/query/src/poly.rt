@@ -19,24 +19,40 @@ pub struct Derivatives {
     pub dddq: f64,
 }
 
-// Order 3, by fused steps.
+// Order 3, by fused steps: the position.
+fn cubic_position(a: &[f64], t: f64) -> f64
+    requires { ⌜ length (now a) ≡ 4 ⌝ }
+    ensures { λ r. ⌜ r ≡ fusedDerivative 3 (now (a .entry)) t 0 ⌝ }
+{
+    mul_add(mul_add(mul_add(a[3], t, a[2]), t, a[1]), t, a[0])
+}
+
+// Order 3, by fused steps. They are taken of each derivative in turn: a step waits for the one before it, and
+// those of the others do not.
 fn cubic(level: u8, a: &[f64], t: f64) -> Derivatives
     requires { ⌜ T (validLevel level) × (length (now a) ≡ 4) ⌝ }
     ensures { λ r. ⌜ r ≡ asked level (fusedDerivative 3 (now (a .entry)) t) ⌝ }
 {
-    let q = mul_add(mul_add(mul_add(a[3], t, a[2]), t, a[1]), t, a[0]);
     if level == 0 {
         return Derivatives {
-            q,
+            q: cubic_position(a, t),
             dq: 0.0,
             ddq: 0.0,
             dddq: 0.0,
         };
     }
-    let two = 2.0 * a[2];
-    let six = 6.0 * a[3];
-    let dq = mul_add(mul_add(3.0 * a[3], t, two), t, a[1]);
+    let a0 = a[0];
+    let a1 = a[1];
+    let a2 = a[2];
+    let a3 = a[3];
+    let two = 2.0 * a2;
+    let six = 6.0 * a3;
+    let q2 = mul_add(a3, t, a2);
+    let dq2 = mul_add(3.0 * a3, t, two);
     let ddq = mul_add(six, t, two);
+    let q1 = mul_add(q2, t, a1);
+    let dq = mul_add(dq2, t, a1);
+    let q = mul_add(q1, t, a0);
     if level == 2 {
         return Derivatives {
             q,
@@ -62,29 +78,39 @@ fn quintic_position(a: &[f64], t: f64) -> f64
     mul_add(mul_add(mul_add(upper, t, a[2]), t, a[1]), t, a[0])
 }
 
-// Order 5, by fused steps.
+// Order 5, by fused steps, of each derivative in turn.
 fn quintic(level: u8, a: &[f64], t: f64) -> Derivatives
     requires { ⌜ T (validLevel level) × (length (now a) ≡ 6) ⌝ }
     ensures { λ r. ⌜ r ≡ asked level (fusedDerivative 5 (now (a .entry)) t) ⌝ }
 {
-    let q = quintic_position(a, t);
     if level == 0 {
         return Derivatives {
-            q,
+            q: quintic_position(a, t),
             dq: 0.0,
             ddq: 0.0,
             dddq: 0.0,
         };
     }
-    let two = 2.0 * a[2];
-    let six = 6.0 * a[3];
-    let upper = mul_add(mul_add(5.0 * a[5], t, 4.0 * a[4]), t, 3.0 * a[3]);
-    let dq = mul_add(mul_add(upper, t, two), t, a[1]);
-    let ddq = mul_add(
-        mul_add(mul_add(20.0 * a[5], t, 12.0 * a[4]), t, six),
-        t,
-        two,
-    );
+    let a0 = a[0];
+    let a1 = a[1];
+    let a2 = a[2];
+    let a3 = a[3];
+    let a4 = a[4];
+    let a5 = a[5];
+    let two = 2.0 * a2;
+    let six = 6.0 * a3;
+    let q4 = mul_add(a5, t, a4);
+    let dq4 = mul_add(5.0 * a5, t, 4.0 * a4);
+    let ddq4 = mul_add(20.0 * a5, t, 12.0 * a4);
+    let q3 = mul_add(q4, t, a3);
+    let dq3 = mul_add(dq4, t, 3.0 * a3);
+    let ddq3 = mul_add(ddq4, t, six);
+    let q2 = mul_add(q3, t, a2);
+    let dq2 = mul_add(dq3, t, two);
+    let ddq = mul_add(ddq3, t, two);
+    let q1 = mul_add(q2, t, a1);
+    let dq = mul_add(dq2, t, a1);
+    let q = mul_add(q1, t, a0);
     if level == 2 {
         return Derivatives {
             q,
@@ -93,7 +119,7 @@ fn quintic(level: u8, a: &[f64], t: f64) -> Derivatives
             dddq: 0.0,
         };
     }
-    let dddq = mul_add(mul_add(60.0 * a[5], t, 24.0 * a[4]), t, six);
+    let dddq = mul_add(mul_add(60.0 * a5, t, 24.0 * a4), t, six);
     Derivatives { q, dq, ddq, dddq }
 }
 

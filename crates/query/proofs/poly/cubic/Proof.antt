@@ -10,77 +10,59 @@ use Rattle.query.proofs.Steps.{last, step, derivative-is}
 use Rattle.query.proofs.poly.cubic.Statement.{statement}
 use Rattle.query.proofs.poly.cubic.Tie as tie
 
--- where the position is found
-module _ (c : tie.After-mul-add3) where
-  abbrev start : tie.Start
-  start = c .before .before .before .before .before .before .before .before
+abbrev derivative : tie.Start → ℕ → Float
+derivative s = fusedDerivative 3 (s .args .a .now) (s .args .t)
 
-  abbrev derivative : ℕ → Float
-  derivative = fusedDerivative 3 (start .args .a .now) (start .args .t)
-
-  position : c .mul-add3 .result ≡ derivative 0
-  unfolding listed derivativeFactor
-  position =
-      derivative-is _ 0 (start .pre .1)
-      (step (c .mul-add3 .ensures)
-      (step (c .before .before .mul-add2 .ensures)
-      (step (c .before .before .before .before .mul-add .ensures) last)))
-
--- where the second derivative is found
+-- where the position and the first two derivatives are found, past the test for level 0
 module _ (c : tie.After-mul-add6) where
-  abbrev at-position : tie.After-mul-add3
-  at-position = c .before .before .before .before .before .before .before .before
+  abbrev past-0 : tie.Else1
+  past-0 = c .before .before .before .before .before .before .before .before .before .before
 
-  first : c .before .mul-add5 .result ≡ derivative at-position 1
+  abbrev start : tie.Start
+  start = past-0 .before .before
+
+  position : c .mul-add6 .result ≡ derivative start 0
+  unfolding listed derivativeFactor
+  position = derivative-is _ 0 (start .pre .1) (step (c .mul-add6 .ensures) (step (c .before .before .mul-add4 .ensures) (step (c .before .before .before .before .before .mul-add .ensures) last)))
+
+  first : c .before .mul-add5 .result ≡ derivative start 1
   unfolding ofBits ofInt listed derivativeFactor
-  first =
-      derivative-is _ 1 (start at-position .pre .1)
-      (step (c .before .mul-add5 .ensures)
-      (step (c .before .before .before .mul-add4 .ensures) last))
+  first = derivative-is _ 1 (start .pre .1) (step (c .before .mul-add5 .ensures) (step (c .before .before .before .before .mul-add2 .ensures) last))
 
-  second : c .mul-add6 .result ≡ derivative at-position 2
+  second : c .before .before .before .mul-add3 .result ≡ derivative start 2
   unfolding ofBits ofInt listed derivativeFactor
-  second = derivative-is _ 2 (start at-position .pre .1) (step (c .mul-add6 .ensures) last)
+  second = derivative-is _ 2 (start .pre .1) (step (c .before .before .before .mul-add3 .ensures) last)
 
-shared-slice-read-mul-add : tie.Need-shared-slice-read-mul-add
-shared-slice-read-mul-add c = search needs
+cubic-position-requires : tie.Need-cubic-position-requires
+cubic-position-requires c κs = search needs
 
-shared-slice-read-mul-add-2 : tie.Need-shared-slice-read-mul-add-2
-shared-slice-read-mul-add-2 c = search needs
+returns : tie.Need-returns
+unfolding ofBits
+returns c = asked-0 (derivative (c .before .before .before)) (c .cubic-position .ensures) (c .before .if1 .taken)
+
+shared-slice-read-a0 : tie.Need-shared-slice-read-a0
+shared-slice-read-a0 c = search needs
+
+shared-slice-read-a1 : tie.Need-shared-slice-read-a1
+shared-slice-read-a1 c = search needs
+
+shared-slice-read-a2 : tie.Need-shared-slice-read-a2
+shared-slice-read-a2 c = search needs
+
+shared-slice-read-a3 : tie.Need-shared-slice-read-a3
+shared-slice-read-a3 c = search needs
 
 mul-add-requires : tie.Need-mul-add-requires
 mul-add-requires c κs = search needs
 
-shared-slice-read-mul-add-3 : tie.Need-shared-slice-read-mul-add-3
-shared-slice-read-mul-add-3 c = search needs
-
 mul-add-requires-2 : tie.Need-mul-add-requires-2
 mul-add-requires-2 c κs = search needs
-
-shared-slice-read-mul-add-4 : tie.Need-shared-slice-read-mul-add-4
-shared-slice-read-mul-add-4 c = search needs
 
 mul-add-requires-3 : tie.Need-mul-add-requires-3
 mul-add-requires-3 c κs = search needs
 
-returns : tie.Need-returns
-unfolding ofBits
-returns c = asked-0 (derivative (c .before)) (position (c .before)) (c .if1 .taken)
-
-shared-slice-read-two : tie.Need-shared-slice-read-two
-shared-slice-read-two c = search needs
-
-shared-slice-read-six : tie.Need-shared-slice-read-six
-shared-slice-read-six c = search needs
-
-shared-slice-read-mul-add-5 : tie.Need-shared-slice-read-mul-add-5
-shared-slice-read-mul-add-5 c = search needs
-
 mul-add-requires-4 : tie.Need-mul-add-requires-4
 mul-add-requires-4 c κs = search needs
-
-shared-slice-read-mul-add-6 : tie.Need-shared-slice-read-mul-add-6
-shared-slice-read-mul-add-6 c = search needs
 
 mul-add-requires-5 : tie.Need-mul-add-requires-5
 mul-add-requires-5 c κs = search needs
@@ -91,34 +73,30 @@ mul-add-requires-6 c κs = search needs
 returns-2 : tie.Need-returns-2
 unfolding ofBits
 returns-2 c =
-    let at = at-position (c .before) in
-    asked-2 (derivative at) (position at) (first (c .before)) (second (c .before)) (c .if2 .taken)
+    let at = c .before in
+    asked-2 (derivative (start at)) (position at) (first at) (second at) (c .if2 .taken)
 
 returns-3 : tie.Need-returns-3
 unfolding ofBits ofInt listed derivativeFactor
 returns-3 c =
-    let at = at-position (c .before) in
-    let level-is : start at .args .level ≡ 3 = search is-3 in
-    asked-3 (derivative at) (position at) (first (c .before)) (second (c .before))
-    (derivative-is _ 3 (start at .pre .1) last) level-is
+    let at = c .before in
+    let s = start at in
+    asked-3 (derivative s) (position at) (first at) (second at) (derivative-is _ 3 (s .pre .1) last) (is-3 _ (s .pre .0) (past-0 at .if1 .left) (c .if2 .left))
 
 pub cubic-spec : {M : Type 1} → statement M
 cubic-spec =
     tie.close
     (tie.spec
-    shared-slice-read-mul-add
-    shared-slice-read-mul-add-2
-    mul-add-requires
-    shared-slice-read-mul-add-3
-    mul-add-requires-2
-    shared-slice-read-mul-add-4
-    mul-add-requires-3
+    cubic-position-requires
     returns
-    shared-slice-read-two
-    shared-slice-read-six
-    shared-slice-read-mul-add-5
+    shared-slice-read-a0
+    shared-slice-read-a1
+    shared-slice-read-a2
+    shared-slice-read-a3
+    mul-add-requires
+    mul-add-requires-2
+    mul-add-requires-3
     mul-add-requires-4
-    shared-slice-read-mul-add-6
     mul-add-requires-5
     mul-add-requires-6
     returns-2

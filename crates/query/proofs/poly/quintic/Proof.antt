@@ -10,64 +10,56 @@ use Rattle.query.proofs.Steps.{last, step, derivative-is}
 use Rattle.query.proofs.poly.quintic.Statement.{statement}
 use Rattle.query.proofs.poly.quintic.Tie as tie
 
--- where the position is found
-module _ (c : tie.After-quintic-position) where
-  abbrev start : tie.Start
-  start = c .before .before
+abbrev derivative : tie.Start → ℕ → Float
+derivative s = fusedDerivative 5 (s .args .a .now) (s .args .t)
 
-  abbrev derivative : ℕ → Float
-  derivative = fusedDerivative 5 (start .args .a .now) (start .args .t)
-
--- where the second derivative is found, past the test for level 0
-module _ (c : tie.After-mul-add7) where
+-- where the position and the first two derivatives are found, past the test for level 0
+module _ (c : tie.After-mul-add12) where
   abbrev past-0 : tie.Else1
-  past-0 = c .before .before .before .before .before .before .before .before .before .before .before .before .before .before .before
+  past-0 = c .before .before .before .before .before .before .before .before .before .before .before .before .before .before .before .before .before .before
 
-  abbrev at-position : tie.After-quintic-position
-  at-position = past-0 .before
+  abbrev start : tie.Start
+  start = past-0 .before .before
 
-  first : c .before .before .before .before .before .mul-add4 .result ≡ derivative at-position 1
+  position : c .mul-add12 .result ≡ derivative start 0
+  unfolding listed derivativeFactor
+  position = derivative-is _ 0 (start .pre .1) (step (c .mul-add12 .ensures) (step (c .before .before .mul-add10 .ensures) (step (c .before .before .before .before .before .mul-add7 .ensures) (step (c .before .before .before .before .before .before .before .before .mul-add4 .ensures) (step (c .before .before .before .before .before .before .before .before .before .before .before .mul-add .ensures) last)))))
+
+  first : c .before .mul-add11 .result ≡ derivative start 1
   unfolding ofBits ofInt listed derivativeFactor
-  first =
-      let at = c .before .before .before .before .before in
-      derivative-is _ 1 (start at-position .pre .1)
-      (step (at .mul-add4 .ensures)
-      (step (at .before .before .mul-add3 .ensures)
-      (step (at .before .before .before .mul-add2 .ensures)
-      (step (at .before .before .before .before .before .mul-add .ensures) last))))
+  first = derivative-is _ 1 (start .pre .1) (step (c .before .mul-add11 .ensures) (step (c .before .before .before .before .mul-add8 .ensures) (step (c .before .before .before .before .before .before .before .mul-add5 .ensures) (step (c .before .before .before .before .before .before .before .before .before .before .mul-add2 .ensures) last))))
 
-  second : c .mul-add7 .result ≡ derivative at-position 2
+  second : c .before .before .before .mul-add9 .result ≡ derivative start 2
   unfolding ofBits ofInt listed derivativeFactor
-  second =
-      derivative-is _ 2 (start at-position .pre .1)
-      (step (c .mul-add7 .ensures)
-      (step (c .before .mul-add6 .ensures)
-      (step (c .before .before .mul-add5 .ensures) last)))
+  second = derivative-is _ 2 (start .pre .1) (step (c .before .before .before .mul-add9 .ensures) (step (c .before .before .before .before .before .before .mul-add6 .ensures) (step (c .before .before .before .before .before .before .before .before .before .mul-add3 .ensures) last)))
 
 quintic-position-requires : tie.Need-quintic-position-requires
 quintic-position-requires c κs = search needs
 
 returns : tie.Need-returns
 unfolding ofBits
-returns c = asked-0 (derivative (c .before)) (c .before .quintic-position .ensures) (c .if1 .taken)
+returns c = asked-0 (derivative (c .before .before .before)) (c .quintic-position .ensures) (c .before .if1 .taken)
 
-shared-slice-read-two : tie.Need-shared-slice-read-two
-shared-slice-read-two c = search needs
+shared-slice-read-a0 : tie.Need-shared-slice-read-a0
+shared-slice-read-a0 c = search needs
 
-shared-slice-read-six : tie.Need-shared-slice-read-six
-shared-slice-read-six c = search needs
+shared-slice-read-a1 : tie.Need-shared-slice-read-a1
+shared-slice-read-a1 c = search needs
 
-shared-slice-read-mul-add : tie.Need-shared-slice-read-mul-add
-shared-slice-read-mul-add c = search needs
+shared-slice-read-a2 : tie.Need-shared-slice-read-a2
+shared-slice-read-a2 c = search needs
 
-shared-slice-read-mul-add-2 : tie.Need-shared-slice-read-mul-add-2
-shared-slice-read-mul-add-2 c = search needs
+shared-slice-read-a3 : tie.Need-shared-slice-read-a3
+shared-slice-read-a3 c = search needs
+
+shared-slice-read-a4 : tie.Need-shared-slice-read-a4
+shared-slice-read-a4 c = search needs
+
+shared-slice-read-a5 : tie.Need-shared-slice-read-a5
+shared-slice-read-a5 c = search needs
 
 mul-add-requires : tie.Need-mul-add-requires
 mul-add-requires c κs = search needs
-
-shared-slice-read-mul-add-3 : tie.Need-shared-slice-read-mul-add-3
-shared-slice-read-mul-add-3 c = search needs
 
 mul-add-requires-2 : tie.Need-mul-add-requires-2
 mul-add-requires-2 c κs = search needs
@@ -75,17 +67,8 @@ mul-add-requires-2 c κs = search needs
 mul-add-requires-3 : tie.Need-mul-add-requires-3
 mul-add-requires-3 c κs = search needs
 
-shared-slice-read-mul-add-4 : tie.Need-shared-slice-read-mul-add-4
-shared-slice-read-mul-add-4 c = search needs
-
 mul-add-requires-4 : tie.Need-mul-add-requires-4
 mul-add-requires-4 c κs = search needs
-
-shared-slice-read-mul-add-5 : tie.Need-shared-slice-read-mul-add-5
-shared-slice-read-mul-add-5 c = search needs
-
-shared-slice-read-mul-add-6 : tie.Need-shared-slice-read-mul-add-6
-shared-slice-read-mul-add-6 c = search needs
 
 mul-add-requires-5 : tie.Need-mul-add-requires-5
 mul-add-requires-5 c κs = search needs
@@ -96,32 +79,41 @@ mul-add-requires-6 c κs = search needs
 mul-add-requires-7 : tie.Need-mul-add-requires-7
 mul-add-requires-7 c κs = search needs
 
-returns-2 : tie.Need-returns-2
-unfolding ofBits
-returns-2 c =
-    let at = at-position (c .before) in
-    asked-2 (derivative at) (at .quintic-position .ensures) (first (c .before)) (second (c .before)) (c .if2 .taken)
-
-shared-slice-read-mul-add-7 : tie.Need-shared-slice-read-mul-add-7
-shared-slice-read-mul-add-7 c = search needs
-
-shared-slice-read-mul-add-8 : tie.Need-shared-slice-read-mul-add-8
-shared-slice-read-mul-add-8 c = search needs
-
 mul-add-requires-8 : tie.Need-mul-add-requires-8
 mul-add-requires-8 c κs = search needs
 
 mul-add-requires-9 : tie.Need-mul-add-requires-9
 mul-add-requires-9 c κs = search needs
 
+mul-add-requires-10 : tie.Need-mul-add-requires-10
+mul-add-requires-10 c κs = search needs
+
+mul-add-requires-11 : tie.Need-mul-add-requires-11
+mul-add-requires-11 c κs = search needs
+
+mul-add-requires-12 : tie.Need-mul-add-requires-12
+mul-add-requires-12 c κs = search needs
+
+returns-2 : tie.Need-returns-2
+unfolding ofBits
+returns-2 c =
+    let at = c .before in
+    asked-2 (derivative (start at)) (position at) (first at) (second at) (c .if2 .taken)
+
+mul-add-requires-13 : tie.Need-mul-add-requires-13
+mul-add-requires-13 c κs = search needs
+
+mul-add-requires-14 : tie.Need-mul-add-requires-14
+mul-add-requires-14 c κs = search needs
+
 returns-3 : tie.Need-returns-3
 unfolding ofBits ofInt listed derivativeFactor
 returns-3 c =
-    let twice = c .before .before .before .before .before in
-    let at = at-position twice in
-    let level-is = is-3 _ (start at .pre .0) (past-0 twice .if1 .left) (c .before .before .before .before .if2 .left) in
-    asked-3 (derivative at) (at .quintic-position .ensures) (first twice) (second twice)
-    (derivative-is _ 3 (start at .pre .1) (step (c .mul-add9 .ensures) (step (c .before .mul-add8 .ensures) last))) level-is
+    let past-2 = c .before .before in
+    let at = past-2 .before in
+    let s = start at in
+    let third = derivative-is _ 3 (s .pre .1) (step (c .mul-add14 .ensures) (step (c .before .mul-add13 .ensures) last)) in
+    asked-3 (derivative s) (position at) (first at) (second at) third (is-3 _ (s .pre .0) (past-0 at .if1 .left) (past-2 .if2 .left))
 
 pub quintic-spec : {M : Type 1} → statement M
 quintic-spec =
@@ -129,24 +121,25 @@ quintic-spec =
     (tie.spec
     quintic-position-requires
     returns
-    shared-slice-read-two
-    shared-slice-read-six
-    shared-slice-read-mul-add
-    shared-slice-read-mul-add-2
+    shared-slice-read-a0
+    shared-slice-read-a1
+    shared-slice-read-a2
+    shared-slice-read-a3
+    shared-slice-read-a4
+    shared-slice-read-a5
     mul-add-requires
-    shared-slice-read-mul-add-3
     mul-add-requires-2
     mul-add-requires-3
-    shared-slice-read-mul-add-4
     mul-add-requires-4
-    shared-slice-read-mul-add-5
-    shared-slice-read-mul-add-6
     mul-add-requires-5
     mul-add-requires-6
     mul-add-requires-7
-    returns-2
-    shared-slice-read-mul-add-7
-    shared-slice-read-mul-add-8
     mul-add-requires-8
     mul-add-requires-9
+    mul-add-requires-10
+    mul-add-requires-11
+    mul-add-requires-12
+    returns-2
+    mul-add-requires-13
+    mul-add-requires-14
     returns-3)
