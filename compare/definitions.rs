@@ -8,11 +8,13 @@
 //! Arguments: the seed, the number of trials of each kind, and proofs/Pieces.antt, whose `use`
 //! lines and whose list of definitions to compute with the module takes over.
 
-use input::{diag, first_no, is_order, path, range, Build, State};
+use input::{diag, path, range, Build, State};
+use query::Query;
 use random::Random;
 use spline::coefficients;
 
 mod input;
+mod query;
 mod random;
 
 // The text of src/path/spline.rs, unchanged, with one function after it that hands out the coefficients.
@@ -128,58 +130,7 @@ fn query(random: &mut Random, _: usize) -> String {
     format!("holds (queried {} ({}) {})", b.text(), float(s), list(&out.concat(), float))
 }
 
-struct Query {
-    order: usize,
-    segments: usize,
-    axes: usize,
-    s_min: f64,
-    s_max: f64,
-    inv_ds: f64,
-    clamp: bool,
-    cells: usize,
-    s: f64,
-    level: usize,
-    lengths: [usize; 4],
-}
-
 impl Query {
-    const DAMAGES: usize = 30;
-    fn damage(&mut self, which: usize) {
-        match which {
-            0..=3 => self.order = [0, 1, 4, 9][which],
-            4 | 5 => self.segments = [0, 257][which - 4],
-            6 | 7 => self.axes = [0, 9][which - 6],
-            8..=10 => self.s_max = [self.s_min, f64::NAN, f64::INFINITY][which - 8],
-            11 => (self.s_min, self.s_max, self.inv_ds) = (f64::MIN, f64::MAX, 0.0),
-            12 => self.inv_ds = self.inv_ds.next_up(),
-            13 => self.inv_ds = self.inv_ds.next_down(),
-            14 => self.cells += 1,
-            15 => self.cells -= 1,
-            16..=18 => self.level = [1, 4, 255][which - 16],
-            19..=22 => self.lengths[which - 19] += 1,
-            23 | 24 => (self.clamp, self.s) = (which == 23, f64::NAN),
-            _ => {
-                let beyond = [self.s_min - 1.0, self.s_max + 1.0, f64::INFINITY];
-                (self.clamp, self.s) = (which > 27, beyond[(which - 25) % 3]);
-            }
-        }
-    }
-    fn number(&self) -> u32 {
-        let written = [true, self.level >= 2, self.level >= 2, self.level >= 3];
-        let served = |(length, written): (&usize, bool)| !written || *length == self.axes;
-        let inside = self.s_min <= self.s && self.s <= self.s_max;
-        first_no(&[
-            (is_order(self.order), 302),
-            (self.segments >= 1, 304),
-            (self.segments <= 256, 2),
-            ((1..=8).contains(&self.axes), 300),
-            (range(self.segments, self.s_min, self.s_max) == Some(self.inv_ds), 301),
-            (self.cells == self.axes * self.segments * (self.order + 1), 303),
-            ([0, 2, 3].contains(&self.level), 308),
-            (self.lengths.iter().zip(written).all(served), 2),
-            (!self.s.is_nan() && (self.clamp || inside), 305),
-        ])
-    }
     fn text(&self) -> String {
         let [q, dq, ddq, dddq] = self.lengths;
         format!(

@@ -50,6 +50,17 @@ impl Random {
     pub fn coordinates(&mut self, n: usize) -> Vec<f64> {
         (0..n).map(|_| self.coordinate()).collect()
     }
+    /// The ends of a range.
+    pub fn ends(&mut self) -> (f64, f64) {
+        let low = self.coordinate();
+        let high = low + self.coordinate().abs() + self.pick(&[0.5, 1.0, 3.0]);
+        // a low end so great that the range vanishes beside it is no range
+        if low < high {
+            (low, high)
+        } else {
+            (0.0, 1.0)
+        }
+    }
 }
 
 pub const NOT_FINITE: [f64; 3] = [f64::NAN, f64::INFINITY, f64::NEG_INFINITY];
@@ -122,10 +133,7 @@ impl Build {
     /// give a build that is served.
     pub fn random(random: &mut Random, order: usize, points: usize, axes: usize) -> Build {
         let m = order / 2;
-        let low = random.coordinate();
-        let high = low + random.coordinate().abs() + random.pick(&[0.5, 1.0, 3.0]);
-        // a low end so great that the range vanishes beside it is no range
-        let (s_min, s_max) = if low < high { (low, high) } else { (0.0, 1.0) };
+        let (s_min, s_max) = random.ends();
         Build {
             order,
             points,

@@ -1,0 +1,507 @@
+//! The query of the static library against the Rust text of copp. `compare/queries` builds and runs it.
+//!
+//!   queries vectors COUNT   prints the list that crates/query_vectors replays in the gate
+//!   queries compare COUNT   compares COUNT generated calls: queries, and refusals of every kind
+//!   queries time            times both
+//!
+//! A query's expected numbers come from the Rust text, over a path of the same record and table. It does
+//! not look whether s is in the range: in Clamp it is given the nearest end, as document 01 says. A
+//! refusal's expected number comes from document 01's questions as plain tests (`Query::number` of
+//! query.rs). NaNs are alike, and the two zeros are alike, though those of another sign are counted; all
+//! else is compared bit for bit.
+
+use input::{diag, path, range, Build, NOT_FINITE};
+use query::Query;
+use random::Random;
+use spline::{coefficients, eval_poly, path_of, segment_tau, SplinePath};
+use std::collections::BTreeMap;
+use std::hint::black_box;
+use std::time::Instant;
+
+// (Nothing here damages a build.)
+#[allow(dead_code)]
+mod input;
+mod query;
+mod random;
+
+// The text of src/path/spline.rs, unchanged, with functions after it that hand out the coefficients, make a
+// path of given fields, and call the lookup and the evaluation.
+#[allow(dead_code)]
+mod spline;
+
+#[link(name = "capi", kind = "static")]
+extern "C" {
+    fn spline_query(
+        order: usize,
+        segments: usize,
+        axes: usize,
+        s_min: f64,
+        s_max: f64,
+        inv_ds: f64,
+        mode: u8,
+        coefficients: *const f64,
+        coefficient_count: usize,
+        s: f64,
+        level: u8,
+        q: *mut f64,
+        q_count: usize,
+        dq: *mut f64,
+        dq_count: usize,
+        ddq: *mut f64,
+        ddq_count: usize,
+        dddq: *mut f64,
+        dddq_count: usize,
+    ) -> u32;
+}
+
+/// The four buffers: positions, first, second and third derivatives.
+type Buffers<T> = [T; 4];
+
+fn ours(query: &Query, mode: u8, table: &[f64], [q, dq, ddq, dddq]: Buffers<&mut [f64]>) -> u32 {
+    // SAFETY: each pointer comes with the length of its list, the lists that are written are borrowed as
+    // mutable and so lie apart from the others, and the function takes any numbers.
+    unsafe {
+        spline_query(
+            query.order,
+            query.segments,
+            query.axes,
+            query.s_min,
+            query.s_max,
+            query.inv_ds,
+            mode,
+            table.as_ptr(),
+            table.len(),
+            query.s,
+            query.level as u8,
+            q.as_mut_ptr(),
+            q.len(),
+            dq.as_mut_ptr(),
+            dq.len(),
+            ddq.as_mut_ptr(),
+            ddq.len(),
+            dddq.as_mut_ptr(),
+            dddq.len(),
+        )
+    }
+}
+
+/// The Rust's query, of a level that is chosen as it is called.
+#[inline(never)]
+fn theirs(path: &SplinePath, s: f64, level: usize, [q, dq, ddq, dddq]: Buffers<&mut [f64]>) {
+    let axes = q.len();
+    match level {
+        0 => path.eval_at::<0>(s, axes, q, dq, ddq, dddq),
+        2 => path.eval_at::<2>(s, axes, q, dq, ddq, dddq),
+        _ => path.eval_at::<3>(s, axes, q, dq, ddq, dddq),
+    }
+}
+
+fn in_rust(q: &Query, table: &[f64]) -> SplinePath {
+    path_of(q.order, q.segments, q.s_min, q.s_max, q.inv_ds, table.to_vec())
+}
+
+fn same_bits(x: f64, y: f64) -> bool {
+    x.to_bits() == y.to_bits() || x.is_nan() && y.is_nan()
+}
+
+/// Whether a level writes derivative k.
+fn writes(level: usize, k: usize) -> bool {
+    k <= level
+}
+
+// ---- what is asked
+
+const ORDERS: [usize; 3] = [3, 5, 7];
+const LEVELS: [usize; 3] = [0, 2, 3];
+/// Kinds of coefficients: magnitudes of 1/16 to 16; of 2^-32 to 2^31; of any exponent; whole numbers within 20; and
+/// magnitudes as the first have them with NaNs, infinities, zeros, the greatest and the least among them.
+const KINDS: u64 = 5;
+
+/// The coefficient that 62 binary digits stand for.
+fn coefficient(kind: u64, digits: u64) -> f64 {
+    let of = |exponent: u64| f64::from_bits((digits & 1) << 63 | exponent << 52 | digits >> 4 & !0 >> 12);
+    let ordinary = of(1019 + digits / 2 % 8);
+    match kind {
+        0 => ordinary,
+        1 => of(991 + (digits >> 56)),
+        2 => of((digits >> 50) % 2047),
+        3 => (digits % 41) as f64 - 20.0,
+        _ => match digits >> 56 {
+            0 => f64::NAN,
+            1 => f64::INFINITY,
+            2 => f64::NEG_INFINITY,
+            3 => 0.0,
+            4 => -0.0,
+            5 => f64::MAX,
+            6 => 5e-324,
+            _ => ordinary,
+        },
+    }
+}
+
+/// A range that question 8 lets pass: plain, of the magnitude of coordinates, or far off in size.
+fn ends(random: &mut Random, segments: usize) -> (f64, f64) {
+    let (low, high) = match random.below(8) {
+        0 => (0.0, 1.0),
+        1 => (0.0, segments as f64),
+        2 => (0.0, 49.0),
+        3 => random.pick(&[(-0.0, 1e-300), (-8e307, 9e307), (1.0, 1.0 + f64::EPSILON), (-3e-308, 1e-307), (1e15, 1e15 + 1.0)]),
+        4 => (-1.0, 1.0),
+        _ => random.ends(),
+    };
+    if range(segments, low, high).is_some() {
+        (low, high)
+    } else {
+        (0.0, 1.0)
+    }
+}
+
+const PLACES: u64 = 8;
+
+/// An end, a joint or the place beside it, a place within the range, a zero, and one beyond the range.
+fn place(random: &mut Random, q: &Query, which: u64) -> f64 {
+    let (lo, hi) = (q.s_min, q.s_max);
+    let joint = lo + random.below(q.segments as u64 + 1) as f64 / q.inv_ds;
+    match which {
+        0 => random.pick(&[lo, hi]),
+        1 => joint,
+        2 => joint.next_up(),
+        3 => joint.next_down(),
+        4 | 5 => lo + random.unit() * (hi - lo),
+        6 => random.pick(&[0.0, -0.0]),
+        _ => {
+            let far = random.pick(&[1.0, 60.0, f64::MAX, f64::INFINITY]);
+            random.pick(&[lo - far, hi + far, hi.next_up(), lo.next_down()])
+        }
+    }
+}
+
+/// The s that document 01's lookup takes in Clamp.
+fn nearest(q: &Query, s: f64) -> f64 {
+    s.clamp(q.s_min, q.s_max)
+}
+
+/// Counts and lengths that match.
+fn matching(random: &mut Random, order: usize, segments: usize, axes: usize) -> Query {
+    let (s_min, s_max) = ends(random, segments.max(1));
+    let level = random.pick(&LEVELS);
+    let any = |random: &mut Random| random.below(12) as usize;
+    let lengths = [0, 1, 2, 3].map(|k| if writes(level, k) { axes } else { any(random) });
+    Query {
+        order,
+        segments,
+        axes,
+        s_min,
+        s_max,
+        inv_ds: segments as f64 / (s_max - s_min),
+        clamp: random.one_in(2),
+        cells: axes * segments * (order + 1),
+        s: s_min,
+        level,
+        lengths,
+    }
+}
+
+/// A served query: mostly of few segments, and one in four of any number up to the greatest.
+fn served(random: &mut Random) -> Query {
+    let segments = match random.below(8) {
+        0 => 1 + random.below(256) as usize,
+        1 => random.pick(&[1, 255, 256]),
+        _ => 1 + random.below(6) as usize,
+    };
+    let (order, axes) = (random.pick(&ORDERS), 1 + random.below(8) as usize);
+    let mut q = matching(random, order, segments, axes);
+    let which = random.below(PLACES);
+    q.s = place(random, &q, which);
+    if !q.clamp {
+        q.s = nearest(&q, q.s);
+    }
+    q
+}
+
+// ---- vectors
+
+/// The table of a path of the list, which the program makes too: from the seed on each number is 48271 times the
+/// last one, modulo 2^31 - 1, and two of them in turn are the digits of a coefficient.
+fn stated(kind: u64, seed: u64, cells: usize) -> Vec<f64> {
+    let mut x = seed;
+    let mut next = || {
+        x = x * 48271 % 0x7fff_ffff;
+        x
+    };
+    let mut pair = || next() << 31 | next();
+    (0..cells).map(|_| coefficient(kind, pair())).collect()
+}
+
+/// The Rust's numbers, derivative by derivative: of level 3, after it was seen that the other levels' are the same,
+/// and that they are the evaluation of the segment and tau that the lookup gives.
+fn numbers(path: &SplinePath, q: &Query, s: f64) -> Buffers<Vec<f64>> {
+    let mut all = LEVELS.map(|level| {
+        let mut out: Buffers<Vec<f64>> = [0, 1, 2, 3].map(|_| vec![0.0; q.axes]);
+        theirs(path, s, level, out.each_mut().map(|list| &mut list[..]));
+        (level, out)
+    });
+    let (_, full) = all[2].clone();
+    let (segment, tau) = segment_tau(path, s);
+    for axis in 0..q.axes {
+        for (level, out) in &mut all {
+            for k in (0..4).filter(|&k| writes(*level, k)) {
+                assert!(same_bits(out[k][axis], full[k][axis]));
+            }
+        }
+        let from = (axis * q.segments + segment) * (q.order + 1);
+        let (x, dx, ddx, dddx) = eval_poly(&coefficients(path)[from..=from + q.order], tau);
+        let squared = q.inv_ds * q.inv_ds;
+        let by_parts = [x, dx * q.inv_ds, ddx * squared, dddx * (squared * q.inv_ds)];
+        assert!((0..4).all(|k| same_bits(by_parts[k], full[k][axis])));
+    }
+    full
+}
+
+/// A line for each path: order, segments, axes, kind of coefficients, mode, seed, s_min, s_max and inv_ds. Under it
+/// eight lines, each with an s, and the four derivatives of each axis there, which stand for a query of each level.
+/// All numbers are hexadecimal, and floats are their bits.
+fn vectors(count: u64) {
+    let bits = |x: f64| format!("{:016x}", if x.is_nan() { f64::NAN.to_bits() } else { x.to_bits() });
+    let mut random = Random(0x3c6e_f372_fe94_f82b);
+    for n in 0..count.div_ceil(LEVELS.len() as u64 * PLACES) {
+        let (order, kind, seed) = (ORDERS[n as usize % 3], n / 3 % KINDS, 1 + random.below(0x7fff_fffe));
+        let few = 1 + random.below(8) as usize;
+        let segments = random.pick(&[1, 2, few, few, few, 16 * few, 255, 256]);
+        let axes = 1 + random.below(8) as usize;
+        let mut q = matching(&mut random, order, segments, axes);
+        // piece m
+        if n == 0 {
+            (q.segments, q.s_min, q.s_max, q.inv_ds) = (1, 0.0, 49.0, 1.0 / 49.0);
+        }
+        let path = in_rust(&q, &stated(kind, seed, q.axes * q.segments * (q.order + 1)));
+        let record = format!("{order:x} {:03x} {axes:x} {kind:x} {:x}", q.segments, q.clamp as u8);
+        println!("{record} {seed:08x} {} {} {}", bits(q.s_min), bits(q.s_max), bits(q.inv_ds));
+        for which in 0..PLACES {
+            let s = place(&mut random, &q, which);
+            let s = if q.clamp { s } else { nearest(&q, s) };
+            let found = numbers(&path, &q, nearest(&q, s));
+            let line: Vec<String> = [s].iter().chain(found.iter().flatten()).map(|&x| bits(x)).collect();
+            println!("{}", line.join(" "));
+        }
+    }
+}
+
+// ---- compare
+
+const COUNTS: u64 = 9;
+
+/// One more or one less of what is counted.
+fn step(q: &mut Query, which: u64, up: bool) {
+    let count = match which {
+        0 => &mut q.order,
+        1 => &mut q.segments,
+        2 => &mut q.axes,
+        3 => &mut q.cells,
+        4 => &mut q.level,
+        k => &mut q.lengths[k as usize - 5],
+    };
+    *count = if up { *count + 1 } else { count.saturating_sub(1) };
+    q.level = q.level.min(255); // it travels as a byte
+}
+
+/// Something that is to be refused; some of it is served all the same, and counts as a query.
+fn doubtful(random: &mut Random, trial: u64) -> Query {
+    let mut q = served(random);
+    match trial % 8 {
+        // at a limit or one beyond, the lists as long as they would have to be
+        0 | 1 => {
+            let order = 2 + random.below(7) as usize;
+            let segments = random.pick(&[0, 1, 2, 256, 257]);
+            let axes = random.pick(&[0, 1, 8, 9]);
+            q = matching(random, order, segments, axes);
+        }
+        2 | 3 => step(&mut q, random.below(COUNTS), trial % 16 < 8),
+        // any lengths at all
+        4 => {
+            q.lengths = q.lengths.map(|n| if random.one_in(3) { random.below(12) as usize } else { n });
+            q.level = random.pick(&[0, 1, 2, 3, 4, 255]);
+        }
+        5 => {
+            let which = random.below(PLACES);
+            q.s = place(random, &q, which);
+            if random.one_in(3) {
+                q.s = random.pick(&NOT_FINITE);
+            }
+        }
+        6 => q.damage(random.below(Query::DAMAGES as u64) as usize),
+        // two things at once: the earlier question's number has to come
+        _ => {
+            q.damage(random.below(Query::DAMAGES as u64) as usize);
+            if random.one_in(2) {
+                step(&mut q, random.below(COUNTS), random.one_in(2));
+            } else {
+                q.damage(random.below(Query::DAMAGES as u64) as usize);
+            }
+        }
+    }
+    q
+}
+
+/// As many coefficients as are asked for, at times those of a path that the Rust builds.
+fn table(random: &mut Random, q: &Query) -> Vec<f64> {
+    let kind = random.below(KINDS + 1);
+    if kind < KINDS || q.number() != 0 {
+        return (0..q.cells).map(|_| coefficient(kind % KINDS, random.bits() >> 2)).collect();
+    }
+    coefficients(&Build::random(random, q.order, q.segments + 1, q.axes).path().expect("the Rust builds it")).to_vec()
+}
+
+const GUARD: usize = 16;
+
+/// A buffer with cells on both sides of it, of which no two are alike.
+fn pattern(k: usize, length: usize) -> Vec<f64> {
+    (0..(length + 2 * GUARD) as u64).map(|i| f64::from_bits(0x4bad_0000_0000_0000 + (k as u64) * 0x1_0000 + i)).collect()
+}
+
+/// A call of ours: its number, and the buffers before and after it.
+fn run(q: &Query, mode: u8, table: &[f64]) -> (u32, Buffers<Vec<f64>>, Buffers<Vec<f64>>) {
+    let before = [0, 1, 2, 3].map(|k| pattern(k, q.lengths[k]));
+    let mut after = before.clone();
+    let lent = after.each_mut().map(|list| {
+        let end = list.len() - GUARD;
+        &mut list[GUARD..end]
+    });
+    let number = ours(q, mode, table, lent);
+    (number, before, after)
+}
+
+#[derive(Default)]
+struct Count {
+    calls: u64,
+    numbers: u64,
+    unlike: u64,
+    zeros: u64,
+}
+
+/// Counts a call that is served: every number that the level writes, and every other cell.
+fn count_query(count: &mut Count, q: &Query, mode: u8, table: &[f64]) -> bool {
+    let (number, mut expected, after) = run(q, mode, table);
+    let inner = GUARD..GUARD + q.axes;
+    let mut found: Buffers<Vec<f64>> = [0, 1, 2, 3].map(|_| vec![0.0; q.axes]);
+    theirs(&in_rust(q, table), nearest(q, q.s), q.level, found.each_mut().map(|list| &mut list[..]));
+    for k in (0..4).filter(|&k| writes(q.level, k)) {
+        expected[k][inner.clone()].copy_from_slice(&found[k]);
+        count.numbers += q.axes as u64;
+    }
+    let pairs = || expected.iter().flatten().zip(after.iter().flatten());
+    let alike = |&(x, y): &(&f64, &f64)| x == y || same_bits(*x, *y);
+    count.zeros += pairs().filter(|pair| alike(pair) && !same_bits(*pair.0, *pair.1)).count() as u64;
+    number == 0 && pairs().all(|pair| alike(&pair))
+}
+
+fn refusal_is_like(q: &Query, mode: u8, table: &[f64], expected: u32) -> bool {
+    let (number, before, after) = run(q, mode, table);
+    number == expected && before.iter().flatten().zip(after.iter().flatten()).all(|(&x, &y)| same_bits(x, y))
+}
+
+fn describe(q: &Query) -> String {
+    format!(
+        "order {}, {} segments, {} axes, range {:e} to {:e}, inv_ds {:e}, clamp {}, {} coefficients, s {:e}, level {}, buffers {:?}",
+        q.order, q.segments, q.axes, q.s_min, q.s_max, q.inv_ds, q.clamp, q.cells, q.s, q.level, q.lengths
+    )
+}
+
+fn compare(count: u64) {
+    let mut random = Random(0xa54f_f53a_5f1d_36f1);
+    let mut queries: BTreeMap<(usize, usize), Count> = BTreeMap::new();
+    let mut refusals: BTreeMap<u32, Count> = BTreeMap::new();
+    let mut shown = 0;
+    for trial in 0..count {
+        let q = if trial % 2 == 0 { served(&mut random) } else { doubtful(&mut random, trial / 2) };
+        let table = table(&mut random, &q);
+        // every number but 1 is Error
+        let mode = if q.clamp { 1 } else { random.pick(&[0, 0, 0, 2, 255]) };
+        let expected = q.number();
+        let (entry, like) = if expected == 0 {
+            let entry = queries.entry((q.order, q.level)).or_default();
+            let like = count_query(entry, &q, mode, &table);
+            (entry, like)
+        } else {
+            (refusals.entry(expected).or_default(), refusal_is_like(&q, mode, &table, expected))
+        };
+        entry.calls += 1;
+        if !like {
+            entry.unlike += 1;
+            shown += 1;
+            if shown <= 5 {
+                println!("unlike: expected {expected}, {} from {}", run(&q, mode, &table).0, describe(&q));
+            }
+        }
+    }
+    let mut all = Count::default();
+    for ((order, level), c) in &queries {
+        println!("order {order}, level {level}: {} queries, {} numbers, {} queries unlike", c.calls, c.numbers, c.unlike);
+        all.calls += c.calls;
+        all.numbers += c.numbers;
+        all.unlike += c.unlike;
+        all.zeros += c.zeros;
+    }
+    println!("all: {} queries, {} numbers, {} queries unlike; {} zeros of another sign", all.calls, all.numbers, all.unlike, all.zeros);
+    let by_number: Vec<String> = refusals.iter().map(|(number, c)| format!("{} with {number}", c.calls)).collect();
+    let (calls, unlike) = refusals.values().fold((0, 0), |(calls, unlike), c| (calls + c.calls, unlike + c.unlike));
+    println!("{calls} refusals ({}), {unlike} unlike", by_number.join(", "));
+    println!("{} calls, {} unlike", all.calls + calls, all.unlike + unlike);
+}
+
+// ---- time
+
+/// Nanoseconds a call of each of two: the best of many rounds, taken in turn, each of a call for every s.
+fn best(places: &[f64], mut here: impl FnMut(f64), mut there: impl FnMut(f64)) -> (f64, f64) {
+    let round = |call: &mut dyn FnMut(f64)| {
+        let start = Instant::now();
+        for &s in places {
+            call(black_box(s));
+        }
+        start.elapsed().as_secs_f64() * 1e9 / places.len() as f64
+    };
+    let mut least = (f64::MAX, f64::MAX);
+    for _ in 0..200 {
+        least = (least.0.min(round(&mut here)), least.1.min(round(&mut there)));
+    }
+    least
+}
+
+fn time() {
+    println!("nanoseconds a query, 64 segments, s at random in the range");
+    println!("order level axes     ours     Rust    ratio");
+    let mut random = Random(0x510e_527f_ade6_82d1);
+    for order in ORDERS {
+        for level in LEVELS {
+            for axes in [1, 8] {
+                let mut q = matching(&mut random, order, 64, axes);
+                (q.s_min, q.s_max, q.inv_ds, q.clamp, q.level, q.lengths) = (0.0, 1.0, 64.0, false, level, [axes; 4]);
+                let table: Vec<f64> = (0..q.cells).map(|_| coefficient(0, random.bits() >> 2)).collect();
+                let path = in_rust(&q, &table);
+                let places: Vec<f64> = (0..1 << 12).map(|_| random.unit()).collect();
+                let mut out: Buffers<Vec<f64>> = [0, 1, 2, 3].map(|_| vec![0.0; axes]);
+                let mut other = out.clone();
+                let (here, there) = best(
+                    &places,
+                    |s| {
+                        q.s = s;
+                        assert_eq!(ours(black_box(&q), 0, &table, out.each_mut().map(|list| &mut list[..])), 0);
+                    },
+                    |s| theirs(black_box(&path), s, black_box(level), other.each_mut().map(|list| &mut list[..])),
+                );
+                assert!(out.iter().flatten().zip(other.iter().flatten()).all(|(&x, &y)| same_bits(x, y)));
+                println!("{order:5} {level:5} {axes:4} {here:8.1} {there:8.1} {:8.2}", here / there);
+            }
+        }
+    }
+}
+
+fn main() {
+    let words: Vec<String> = std::env::args().skip(1).collect();
+    match words.iter().map(String::as_str).collect::<Vec<_>>().as_slice() {
+        ["vectors", count] => vectors(count.parse().expect("a count")),
+        ["compare", count] => compare(count.parse().expect("a count")),
+        ["time"] => time(),
+        _ => panic!("vectors COUNT, compare COUNT or time"),
+    }
+}
