@@ -258,9 +258,9 @@ fn numbers(path: &SplinePath, q: &Query, s: f64) -> Buffers<Vec<f64>> {
     full
 }
 
-/// A line for each path: order, segments, axes, kind of coefficients, mode, seed, s_min, s_max and inv_ds. Under it
-/// eight lines, each with an s, and the four derivatives of each axis there, which stand for a query of each level.
-/// All numbers are hexadecimal, and floats are their bits.
+/// A line for each path: order, segments, axes, how many coefficients and of which kind, mode, seed, s_min, s_max and
+/// inv_ds. Under it eight lines, each with an s, and the position, first, second and third derivative there, each
+/// axis by axis, which stand for a query of each level. All numbers are hexadecimal, and floats are their bits.
 fn vectors(count: u64) {
     let bits = |x: f64| format!("{:016x}", if x.is_nan() { f64::NAN.to_bits() } else { x.to_bits() });
     let mut random = Random(0x3c6e_f372_fe94_f82b);
@@ -275,8 +275,8 @@ fn vectors(count: u64) {
             (q.segments, q.s_min, q.s_max, q.inv_ds) = (1, 0.0, 49.0, 1.0 / 49.0);
         }
         let path = in_rust(&q, &stated(kind, seed, q.axes * q.segments * (q.order + 1)));
-        let record = format!("{order:x} {:03x} {axes:x} {kind:x} {:x}", q.segments, q.clamp as u8);
-        println!("{record} {seed:08x} {} {} {}", bits(q.s_min), bits(q.s_max), bits(q.inv_ds));
+        let counts = format!("{order:x} {:03x} {axes:x} {:04x}", q.segments, coefficients(&path).len());
+        println!("{counts} {kind:x} {:x} {seed:08x} {} {} {}", q.clamp as u8, bits(q.s_min), bits(q.s_max), bits(q.inv_ds));
         for which in 0..PLACES {
             let s = place(&mut random, &q, which);
             let s = if q.clamp { s } else { nearest(&q, s) };

@@ -5,33 +5,15 @@ ghost use Prim.Native.Nat.{_≤_};
 use libc::STDIN_FILENO;
 use trials::Tally;
 use trials::bits;
-
-fn digit(c: u8) -> u64 {
-    if c < b'a' {
-        (c % 16) as u64
-    } else {
-        ((c - b'a') % 6 + 10) as u64
-    }
-}
-
-// The number of 16 digits that starts at a place of the line.
-fn number(line: &[u8; 68], from: usize) -> u64
-    requires { ⌜ from ≤ 51 ⌝ }
-{
-    let mut n = 0u64;
-    for i in 0..16 {
-        n = n % 0x1000_0000_0000_0000 * 16 + digit(line[from + i]) % 16;
-    }
-    n
-}
+use trials::digits;
 
 fn agrees(line: &[u8; 68]) -> bool {
     let r = fused::mul_add(
-        bits::float(number(line, 0)),
-        bits::float(number(line, 17)),
-        bits::float(number(line, 34)),
+        digits::float(line, 0),
+        digits::float(line, 17),
+        digits::float(line, 34),
     );
-    bits::same(r, bits::float(number(line, 51)))
+    bits::same(r, digits::float(line, 51))
 }
 
 // The next line of the input: 0 where it agrees, 1 where it came out unlike, and 2 at the end.

@@ -1,9 +1,21 @@
-// What the programs have in common that try the library out: a float's bits, printing, a buffer that is
-// filled before a call and compared after it, the record that a build returns, and the count.
+// What the programs have in common that try the library out: a float's bits, numbers read from a line,
+// printing, a buffer that is filled before a call and compared after it, the record that a build returns,
+// and the count.
 pub mod bits;
 pub mod buffer;
 pub mod builds;
+pub mod digits;
 pub mod print;
+
+use rules::OutOfRangeMode;
+
+// What a query does outside the range.
+pub fn mode(clamp: bool) -> OutOfRangeMode {
+    if clamp {
+        return OutOfRangeMode::Clamp;
+    }
+    OutOfRangeMode::Error
+}
 
 // The calls there were, and those answered otherwise than expected.
 pub struct Tally {
