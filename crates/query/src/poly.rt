@@ -6,6 +6,7 @@ ghost use Prim.Native.Nat.{_+_};
 ghost use lib.Dec.{T};
 ghost use lib.ListN.{length};
 ghost use lib.Ieee.{Float};
+ghost use Rattle.rules.specs.Floats.{+0};
 ghost use Rattle.rules.specs.Build.{validOrder};
 ghost use Rattle.rules.specs.Query.{validLevel, generalLoop, loopDerivative, fusedDerivative, evalPoly};
 ghost use Rattle.query.specs.Level.{asked};
@@ -17,6 +18,30 @@ pub struct Derivatives {
     pub dq: f64,
     pub ddq: f64,
     pub dddq: f64,
+}
+
+// Level 0: the position alone.
+fn position(q: f64) -> Derivatives
+    ensures { λ r. ⌜ r ≡ record { q = q; dq = +0; ddq = +0; dddq = +0 } ⌝ }
+{
+    Derivatives {
+        q,
+        dq: 0.0,
+        ddq: 0.0,
+        dddq: 0.0,
+    }
+}
+
+// Level 2: up to the second derivative.
+fn up_to_second(q: f64, dq: f64, ddq: f64) -> Derivatives
+    ensures { λ r. ⌜ r ≡ record { q = q; dq = dq; ddq = ddq; dddq = +0 } ⌝ }
+{
+    Derivatives {
+        q,
+        dq,
+        ddq,
+        dddq: 0.0,
+    }
 }
 
 // Order 3, by fused steps: the position.
@@ -34,12 +59,7 @@ fn cubic(level: u8, a: &[f64], t: f64) -> Derivatives
     ensures { λ r. ⌜ r ≡ asked level (fusedDerivative 3 (now (a .entry)) t) ⌝ }
 {
     if level == 0 {
-        return Derivatives {
-            q: cubic_position(a, t),
-            dq: 0.0,
-            ddq: 0.0,
-            dddq: 0.0,
-        };
+        return position(cubic_position(a, t));
     }
     let a0 = a[0];
     let a1 = a[1];
@@ -54,12 +74,7 @@ fn cubic(level: u8, a: &[f64], t: f64) -> Derivatives
     let dq = mul_add(dq2, t, a1);
     let q = mul_add(q1, t, a0);
     if level == 2 {
-        return Derivatives {
-            q,
-            dq,
-            ddq,
-            dddq: 0.0,
-        };
+        return up_to_second(q, dq, ddq);
     }
     Derivatives {
         q,
@@ -84,12 +99,7 @@ fn quintic(level: u8, a: &[f64], t: f64) -> Derivatives
     ensures { λ r. ⌜ r ≡ asked level (fusedDerivative 5 (now (a .entry)) t) ⌝ }
 {
     if level == 0 {
-        return Derivatives {
-            q: quintic_position(a, t),
-            dq: 0.0,
-            ddq: 0.0,
-            dddq: 0.0,
-        };
+        return position(quintic_position(a, t));
     }
     let a0 = a[0];
     let a1 = a[1];
@@ -112,12 +122,7 @@ fn quintic(level: u8, a: &[f64], t: f64) -> Derivatives
     let dq = mul_add(dq2, t, a1);
     let q = mul_add(q1, t, a0);
     if level == 2 {
-        return Derivatives {
-            q,
-            dq,
-            ddq,
-            dddq: 0.0,
-        };
+        return up_to_second(q, dq, ddq);
     }
     let dddq = mul_add(mul_add(60.0 * a5, t, 24.0 * a4), t, six);
     Derivatives { q, dq, ddq, dddq }
@@ -130,22 +135,12 @@ fn general_step(level: u8, b: Derivatives, t: f64, a: f64) -> Derivatives
 {
     let q = b.q * t + a;
     if level == 0 {
-        return Derivatives {
-            q,
-            dq: 0.0,
-            ddq: 0.0,
-            dddq: 0.0,
-        };
+        return position(q);
     }
     let dq = b.dq * t + b.q;
     let ddq = b.ddq * t + 2.0 * b.dq;
     if level == 2 {
-        return Derivatives {
-            q,
-            dq,
-            ddq,
-            dddq: 0.0,
-        };
+        return up_to_second(q, dq, ddq);
     }
     let dddq = b.dddq * t + 3.0 * b.ddq;
     Derivatives { q, dq, ddq, dddq }
@@ -156,12 +151,7 @@ fn general(level: u8, a: &[f64], t: f64) -> Derivatives
     requires { ⌜ T (validLevel level) × (length (now a) ≡ 8) ⌝ }
     ensures { λ r. ⌜ r ≡ asked level (loopDerivative (generalLoop t (now (a .entry)))) ⌝ }
 {
-    let mut b = Derivatives {
-        q: a[7],
-        dq: 0.0,
-        ddq: 0.0,
-        dddq: 0.0,
-    };
+    let mut b = position(a[7]);
     let mut k = 7;
     while 0 < k {
         k -= 1;

@@ -1,5 +1,5 @@
 -- `query::poly::cubic` meets its contract: its steps are those of each derivative. Assumes nothing.
-use mathlib.Core.Path.{_≡_}
+use mathlib.Core.Path.{_≡_, _∙_}
 use Prim.Native.Nat.{ℕ}
 use borrow.Author.Needs.{needs}
 use lib.Ieee.{Float, ofBits, ofInt}
@@ -36,9 +36,11 @@ module _ (c : tie.After-mul-add6) where
 cubic-position-requires : tie.Need-cubic-position-requires
 cubic-position-requires c κs = search needs
 
+position-requires : tie.Need-position-requires
+position-requires c κs = search needs
+
 returns : tie.Need-returns
-unfolding ofBits
-returns c = asked-0 (derivative (c .before .before .before)) (c .cubic-position .ensures) (c .before .if1 .taken)
+returns c = c .position .ensures ∙ asked-0 (derivative (c .before .before .before .before)) (c .before .cubic-position .ensures) (c .before .before .if1 .taken)
 
 shared-slice-read-a0 : tie.Need-shared-slice-read-a0
 shared-slice-read-a0 c = search needs
@@ -70,11 +72,13 @@ mul-add-requires-5 c κs = search needs
 mul-add-requires-6 : tie.Need-mul-add-requires-6
 mul-add-requires-6 c κs = search needs
 
+up-to-second-requires : tie.Need-up-to-second-requires
+up-to-second-requires c κs = search needs
+
 returns-2 : tie.Need-returns-2
-unfolding ofBits
 returns-2 c =
-    let at = c .before in
-    asked-2 (derivative (start at)) (position at) (first at) (second at) (c .if2 .taken)
+    let at = c .before .before in
+    c .up-to-second .ensures ∙ asked-2 (derivative (start at)) (position at) (first at) (second at) (c .before .if2 .taken)
 
 returns-3 : tie.Need-returns-3
 unfolding ofBits ofInt listed derivativeFactor
@@ -88,6 +92,7 @@ cubic-spec =
     tie.close
     (tie.spec
     cubic-position-requires
+    position-requires
     returns
     shared-slice-read-a0
     shared-slice-read-a1
@@ -99,5 +104,6 @@ cubic-spec =
     mul-add-requires-4
     mul-add-requires-5
     mul-add-requires-6
+    up-to-second-requires
     returns-2
     returns-3)

@@ -1,6 +1,8 @@
 -- `query::poly::general` meets its contract. The loop's invariant: b is what the level asks for of the coefficients from k on. The measure is k. Assumes nothing.
+use mathlib.Core.Path.{sym, subst}
 use native.Mathlib.Omega.{arith}
-use lib.Ieee.{ofBits}
+use borrow.Author.Needs.{needs}
+use Rattle.query.specs.declared.poly.Derivatives.{Derivatives}
 use Rattle.query.proofs.Loop.{Looped, start, step, end}
 use Rattle.query.proofs.poly.general.Statement.{statement}
 use Rattle.query.proofs.poly.general.Tie as tie
@@ -11,12 +13,16 @@ Inv-loop level a t b₀ k₀ b k = Looped level a t b k
 abbrev μ-loop : tie.MeasureT-loop
 μ-loop level a t b₀ k₀ b k = k
 
-shared-slice-read-t7 : tie.Need-shared-slice-read-t7 Inv-loop μ-loop
-shared-slice-read-t7 c = omega arith
+shared-slice-read-position : tie.Need-shared-slice-read-position Inv-loop μ-loop
+shared-slice-read-position c = omega arith
+
+position-requires : tie.Need-position-requires Inv-loop μ-loop
+position-requires c κs = search needs
 
 loop-holds : tie.Need-loop-holds Inv-loop μ-loop
-unfolding ofBits
-loop-holds c = start _ _ _ 7 (c .before .before .pre .1)
+loop-holds c =
+    let s = c .before .before .before in
+    subst (λ (b : Derivatives). Looped (s .args .level) (s .args .a .now) (s .args .t) b 7) (sym (c .position .ensures)) (start _ _ _ 7 (s .pre .1))
 
 sub-k : tie.Need-sub-k Inv-loop μ-loop
 sub-k c = omega arith
@@ -28,7 +34,7 @@ shared-slice-read-general-step : tie.Need-shared-slice-read-general-step Inv-loo
 shared-slice-read-general-step c = omega arith
 
 general-step-requires : tie.Need-general-step-requires Inv-loop μ-loop
-general-step-requires c κs = c .before .before .before .before .before .pre .0
+general-step-requires c κs = c .before .before .before .before .before .before .pre .0
 
 loop-less : tie.Need-loop-less Inv-loop μ-loop
 loop-less c = omega arith
@@ -45,7 +51,8 @@ general-spec =
     (tie.spec
     Inv-loop
     μ-loop
-    shared-slice-read-t7
+    shared-slice-read-position
+    position-requires
     loop-holds
     sub-k
     mul-general-step

@@ -1,5 +1,5 @@
 -- `query::poly::quintic` meets its contract: its steps are those of each derivative. Assumes nothing.
-use mathlib.Core.Path.{_≡_}
+use mathlib.Core.Path.{_≡_, _∙_}
 use Prim.Native.Nat.{ℕ}
 use borrow.Author.Needs.{needs}
 use lib.Ieee.{Float, ofBits, ofInt}
@@ -36,9 +36,11 @@ module _ (c : tie.After-mul-add12) where
 quintic-position-requires : tie.Need-quintic-position-requires
 quintic-position-requires c κs = search needs
 
+position-requires : tie.Need-position-requires
+position-requires c κs = search needs
+
 returns : tie.Need-returns
-unfolding ofBits
-returns c = asked-0 (derivative (c .before .before .before)) (c .quintic-position .ensures) (c .before .if1 .taken)
+returns c = c .position .ensures ∙ asked-0 (derivative (c .before .before .before .before)) (c .before .quintic-position .ensures) (c .before .before .if1 .taken)
 
 shared-slice-read-a0 : tie.Need-shared-slice-read-a0
 shared-slice-read-a0 c = search needs
@@ -94,11 +96,13 @@ mul-add-requires-11 c κs = search needs
 mul-add-requires-12 : tie.Need-mul-add-requires-12
 mul-add-requires-12 c κs = search needs
 
+up-to-second-requires : tie.Need-up-to-second-requires
+up-to-second-requires c κs = search needs
+
 returns-2 : tie.Need-returns-2
-unfolding ofBits
 returns-2 c =
-    let at = c .before in
-    asked-2 (derivative (start at)) (position at) (first at) (second at) (c .if2 .taken)
+    let at = c .before .before in
+    c .up-to-second .ensures ∙ asked-2 (derivative (start at)) (position at) (first at) (second at) (c .before .if2 .taken)
 
 mul-add-requires-13 : tie.Need-mul-add-requires-13
 mul-add-requires-13 c κs = search needs
@@ -120,6 +124,7 @@ quintic-spec =
     tie.close
     (tie.spec
     quintic-position-requires
+    position-requires
     returns
     shared-slice-read-a0
     shared-slice-read-a1
@@ -139,6 +144,7 @@ quintic-spec =
     mul-add-requires-10
     mul-add-requires-11
     mul-add-requires-12
+    up-to-second-requires
     returns-2
     mul-add-requires-13
     mul-add-requires-14
