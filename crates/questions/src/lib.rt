@@ -71,21 +71,14 @@ pub fn inv_ds(segments: usize, s_min: PathParam, s_max: PathParam) -> f64
     segments as f64 / (s_max.0 - s_min.0)
 }
 
-// Question 8.
+// Question 8. The quotient alone decides. A count divided by a NaN, an infinity, a zero or a number below
+// zero is never both finite and above 0. So where the quotient is, s_max − s_min is too, and then s_min
+// and s_max are finite and s_min < s_max.
 fn valid_range(segments: usize, s_min: PathParam, s_max: PathParam) -> bool
     requires { ⌜ segments ≤ 256 ⌝ }
     ensures { λ r. ⌜ r ≡ validRange segments «s_min» «s_max» ⌝ }
 {
     let inv = inv_ds(segments, s_min, s_max);
-    if !is_finite(s_min.0) {
-        return false;
-    }
-    if !is_finite(s_max.0) {
-        return false;
-    }
-    if !(s_min.0 < s_max.0) {
-        return false;
-    }
     if !is_finite(inv) {
         return false;
     }
@@ -147,7 +140,7 @@ pub fn build_questions(
     if 257 < points {
         return 2; // question 3
     }
-    if axes < 1 {
+    if axes < 1 { // no axis
         return 300; // question 4, too few
     }
     if 8 < axes {
@@ -269,5 +262,5 @@ pub fn query_questions(
     if !valid_lengths(axes, level, q, dq, ddq, dddq) {
         return 2;
     }
-    0 // every question says yes
+    0 // every question but the last says yes
 }

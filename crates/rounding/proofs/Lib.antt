@@ -5,5 +5,6 @@ pub mod Pattern
 pub mod Sums
 pub mod Word
 pub mod Values
+pub mod Signs
 pub mod Whole
 pub mod Held

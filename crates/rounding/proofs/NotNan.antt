@@ -1,17 +1,18 @@
 -- What is no NaN, in either format: a rounded fraction, the difference of finite values, and a value that is no NaN times one that is finite and above zero.
 -- And which values are so, by comparisons: what lies between finite values is finite, and what equals a value above zero is above zero. Assumes nothing.
-use mathlib.Core.Path.{_≡_, refl, ap, _∙_}
+use mathlib.Core.Path.{_≡_, refl, ap}
 use mathlib.Core.Bool.{Bool, true, false, not, _&&_, _||_, Bool·beq, cond}
-use Prim.Native.Nat.{ℕ, zero, suc, _+_, _-_, _*_, _^_, _<_, zero-le}
+use Prim.Native.Nat.{ℕ, _+_, _-_, _*_, _<_, zero-le}
 use native.Mathlib.Nat.{lt-of-le-of-lt, mul-pos}
 use native.Mathlib.Omega.{arith}
 use lib.IntN.{pos}
 use lib.Dec.{T, ltb, eqb, ltb→lt, lt→ltb, eqb→eq, not-T}
-use lib.Ieee.{Float, nan, inf, fin, Format, prec, emax, low, unlike, up, down, odd, units, round, sum, add, neg, sub, mul, lt, eq, le, isNan}
-use lib.Ieee.Fits.{round-is, up-pos, down-pos, and-l, and-r}
+use lib.Ieee.{Float, nan, inf, fin, Format, unlike, up, down, round, sum, add, neg, sub, mul, lt, eq, le, isNan}
+use lib.Ieee.Fits.{up-pos, down-pos, and-l, and-r}
 use lib.Ieee.Bits.{cond-no}
 use lib.Ieee.Scale.{finite}
 use lib.Ieee.Positive.{positive, first-pos}
+use Rattle.rounding.proofs.Signs.{rounded}
 
 -- ---- rounded values
 
@@ -19,17 +20,9 @@ cond-number : (b : Bool) (x y : Float) → isNan x ≡ false → isNan y ≡ fal
 cond-number true x y h k = h
 cond-number false x y h k = k
 
-odd-number : (d : ℕ) (s : Bool) (q k l : ℕ) → isNan (odd d s q k l) ≡ false
-unfolding odd isNan
-odd-number d s zero k l = refl
-odd-number d s (suc q) k l = refl
-
-units-number : (f : Format) (s : Bool) (q k : ℕ) → isNan (units f s q k) ≡ false
-unfolding units isNan
-units-number f s q k = cond-number (ltb (q * 2 ^ k) (2 ^ (low f + suc (emax f)))) (odd (suc (prec f)) s q k (low f)) (inf s) (odd-number (suc (prec f)) s q k (low f)) refl
-
 pub round-number : (f : Format) (s : Bool) (a c : ℕ) → isNan (round f s a c) ≡ false
-round-number f s a c = ap isNan (round-is f s a c) ∙ units-number f s _ _
+unfolding isNan
+round-number f s = rounded (λ x. isNan x ≡ false) s refl (λ m e. refl) f
 
 -- ---- differences and products
 
