@@ -4,6 +4,7 @@ ghost use mathlib.Core.Bool.{false, _&&_};
 ghost use Prim.Native.Nat.{_≤_};
 ghost use lib.Dec.{T};
 ghost use lib.Ieee.{eq, isNan};
+ghost use Rattle.rules.specs.Floats.{ofCount};
 ghost use Rattle.rules.specs.Build.{validRange, invDs};
 ghost use Rattle.rules.specs.Query as Query;
 ghost use Rattle.rules.specs.Query.{inRange, lookup, lookupSays};
@@ -41,6 +42,14 @@ fn clamped(mode: OutOfRangeMode, s_min: PathParam, s_max: PathParam, s: PathPara
     }
 }
 
+// A count as a float. The processor has an instruction for signed numbers alone.
+fn count_as_float(n: u64) -> f64
+    requires { ⌜ n ≤ 256 ⌝ }
+    ensures { λ r. ⌜ r ≡ ofCount n ⌝ }
+{
+    n as i64 as f64
+}
+
 // The segment, and tau. The subtraction loses nothing: the rest has no more digits than x.
 fn located(segments: usize, x: SegmentUnits) -> Lookup
     requires { ⌜ (1 ≤ segments) × (segments ≤ 256) × (isNan (x .0) ≡ false) ⌝ }
@@ -58,10 +67,10 @@ fn located(segments: usize, x: SegmentUnits) -> Lookup
             tau: SegmentUnits(1.0),
         };
     }
-    let whole = std::num::truncating_f64_to_u64(x.0) as u32; // below 256, and a cast of 32 bits is cheap
+    let whole = std::num::truncating_f64_to_u64(x.0);
     Lookup::At {
         segment: whole as usize,
-        tau: SegmentUnits(x.0 - whole as f64),
+        tau: SegmentUnits(x.0 - count_as_float(whole)),
     }
 }
 

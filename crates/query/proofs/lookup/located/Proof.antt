@@ -1,7 +1,7 @@
 -- Above 0 and below the count the truncation is the whole part (`truncation`), and taking it away leaves the exact rest (`rest-exact`). Assumes nothing.
 use mathlib.Core.Path.{_≡_, refl, ap, _∙_}
 use Prim.Native.Nat.{ℕ, _≤_, _^_}
-use native.Mathlib.Nat.{le-trans, lt-of-lt-of-le}
+use native.Mathlib.Nat.{le-trans, le-of-lt}
 use lib.Dec.{lit≤, le→leb}
 use lib.Ieee.{Float, ofBits, inFloat}
 use borrow.Author.Needs.{needs}
@@ -44,22 +44,17 @@ returns-2 c = rw (c .before .before .before .if1 .left, c .if2 .taken) refl
 truncating-f64-to-u64-requires : tie.Need-truncating-f64-to-u64-requires
 truncating-f64-to-u64-requires c κs = (above-minus-one (between c), below-power 64 (few (c .before .before .before .before .before) (lit≤ tt)) (between c))
 
-cast-whole : tie.Need-cast-whole
-cast-whole c = record { fits = rw (whole c) (lt-of-lt-of-le (whole-below (between (c .before))) (few (c .before .before .before .before .before .before) (lit≤ tt))) }
-
-cast-t10 : tie.Need-cast-t10
-cast-t10 c = search needs
-
-int-to-float-t6 : tie.Need-int-to-float-t6
-int-to-float-t6 c = search needs
+count-as-float-requires : tie.Need-count-as-float-requires
+count-as-float-requires c κs = rw (whole c) (le-trans (le-of-lt (whole-below (between (c .before)))) (few (c .before .before .before .before .before .before) (lit≤ tt)))
 
 returns-3 : tie.Need-returns-3
 unfolding located ofBits
 returns-3 c =
-    let e = c .before .before .before in
+    let w = c .before .before in
+    let e = w .before in
     let r = e .before .before .before in
     let x = r .before .before .args .x .0 in
-    rw (r .if1 .left, e .if2 .left, whole (c .before .before))
+    rw (r .if1 .left, e .if2 .left, c .before .count-as-float .ensures, whole w)
     (ap (λ (t : Float). At (wholePart x) (record { 0 = t })) (rest-exact x (r .before .struct-known .given .0) (between e .above)))
 
 pub located-spec : {M : Type 1} → statement M
@@ -71,7 +66,5 @@ located-spec =
     sub-t7
     returns-2
     truncating-f64-to-u64-requires
-    cast-whole
-    cast-t10
-    int-to-float-t6
+    count-as-float-requires
     returns-3)
