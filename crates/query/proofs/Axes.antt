@@ -19,7 +19,7 @@ use Rattle.rules.proofs.Fills.{Filled}
 use Rattle.rules.proofs.Lists.{part-inside}
 use Rattle.query.specs.declared.poly.Derivatives.{Derivatives}
 use Rattle.query.specs.Level.{asked}
-use Rattle.query.specs.Axes.{Evaluable, Evaluated}
+use Rattle.query.specs.Axes.{Evaluable}
 
 -- ---- a buffer that is written, w, or not: ys is xs with f's cells below i, or xs itself
 
@@ -82,14 +82,3 @@ module _ {p : PathRecord} {coefficients : List Float} {segment level : ℕ} {n :
 
     pub part-inside-all : (axis * p .segments + segment) * (p .order + 1) + (p .order + 1) ≤ p .axes * p .segments * (p .order + 1)
     part-inside-all = part-inside (p .order + 1) segment-inside
-
--- ---- a level that is known, and its number
-
-module _ {p : PathRecord} {coefficients : List Float} {segment level l : ℕ} (e : level ≡ l) where
-  pub at-level : {n : Lengths} → Evaluable p coefficients segment level n → Evaluable p coefficients segment l n
-  at-level {n} h = subst (λ (k : ℕ). Evaluable p coefficients segment k n) e h
-
-  pub of-level : {t : Float} {q₀ dq₀ ddq₀ dddq₀ q dq ddq dddq : List Float}
-      → Evaluated p coefficients segment t l q₀ dq₀ ddq₀ dddq₀ q dq ddq dddq → Evaluated p coefficients segment t level q₀ dq₀ ddq₀ dddq₀ q dq ddq dddq
-  of-level {t} {q₀} {dq₀} {ddq₀} {dddq₀} {q} {dq} {ddq} {dddq} h =
-      subst (λ (k : ℕ). Evaluated p coefficients segment t k q₀ dq₀ ddq₀ dddq₀ q dq ddq dddq) (sym e) h

@@ -62,33 +62,6 @@ fn eval_axes(
     }
 }
 
-// The same, with the level as a constant in each call, so that the compiler can make a loop for each level
-// that asks no more questions.
-fn eval_level(
-    path: PathRecord,
-    coeffs: &[f64],
-    segment: usize,
-    tau: SegmentUnits,
-    level: u8,
-    q: &mut [f64],
-    dq: &mut [f64],
-    ddq: &mut [f64],
-    dddq: &mut [f64],
-)
-    requires { ⌜ Evaluable path (now coeffs) segment level (lengthsOf (now q) (now dq) (now ddq) (now dddq)) ⌝ }
-    ensures { λ r. ⌜ Evaluated path (now (coeffs .entry)) segment (tau .0) level (now (q .entry)) (now (dq .entry)) (now (ddq .entry)) (now (dddq .entry)) (now (q .exit)) (now (dq .exit)) (now (ddq .exit)) (now (dddq .exit)) ⌝ }
-{
-    if level == 0 {
-        eval_axes(path, coeffs, segment, tau, 0, q, dq, ddq, dddq);
-        return;
-    }
-    if level == 2 {
-        eval_axes(path, coeffs, segment, tau, 2, q, dq, ddq, dddq);
-        return;
-    }
-    eval_axes(path, coeffs, segment, tau, 3, q, dq, ddq, dddq);
-}
-
 // The query. Every call is answered: 0, and the buffers that the level writes hold the derivatives of each
 // axis; or the number of the first question that says no, and all four buffers are as they were.
 pub fn eval_at(
@@ -118,7 +91,7 @@ pub fn eval_at(
     match segment_tau(path, s) {
         Lookup::OutOfRange(_) => 305,
         Lookup::At { segment, tau } => {
-            eval_level(path, coeffs, segment, tau, level, q, dq, ddq, dddq);
+            eval_axes(path, coeffs, segment, tau, level, q, dq, ddq, dddq);
             0
         }
     }

@@ -160,16 +160,23 @@ fn general(level: u8, a: &[f64], t: f64) -> Derivatives
     b
 }
 
-// A segment's coefficients at t, by its order.
+// A segment's coefficients at t, by its order. The general loop is called with each level as a constant, so
+// that the compiler makes one for each, and nothing is asked inside.
 pub fn eval_poly(order: usize, level: u8, a: &[f64], t: f64) -> Derivatives
     requires { ⌜ T (validOrder order) × T (validLevel level) × (length (now a) ≡ order + 1) ⌝ }
     ensures { λ r. ⌜ r ≡ asked level (evalPoly order (now (a .entry)) t) ⌝ }
 {
-    if order == 7 {
-        return general(level, a, t);
+    if order == 3 {
+        return cubic(level, a, t);
     }
     if order == 5 {
         return quintic(level, a, t);
     }
-    cubic(level, a, t)
+    if level == 0 {
+        return general(0, a, t);
+    }
+    if level == 2 {
+        return general(2, a, t);
+    }
+    general(3, a, t)
 }

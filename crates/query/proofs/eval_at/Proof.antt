@@ -74,9 +74,9 @@ enum-told c = search needs
 enum-known-segment : tie.Need-enum-known-segment
 enum-known-segment c = search needs
 
-eval-level-requires : tie.Need-eval-level-requires
+eval-axes-requires : tie.Need-eval-axes-requires
 unfolding lookupSays
-eval-level-requires c κs =
+eval-axes-requires c κs =
     let f = c .before .before .before .before .before in
     let p = asked-at f in
     let i = given p in
@@ -116,7 +116,7 @@ returns-3 c =
     let is : queryNumber i (lengths p) ≡ 0 = yes-number i (lengths p) (said-yes (f .before .before .before)) (inside f) in
     let written : (k : ℕ) (before : List Float) → cond (writes (i .level) k) (derivativeAt (i .path) (i .coefficients) (segment f) (tau f .0) k) before ≡ derivativeAfter i (lengths p) k before =
     λ k before. ap (λ (xs : List Float). cond (writes (i .level) k) xs before) (sym (derivative-at i (segment f) (tau f) (found f) k)) ∙ sym (served i (lengths p) is k before) in
-    let h = l .eval-level .ensures in
+    let h = l .eval-axes .ensures in
     let always : writes (i .level) 0 ≡ true = le-leb 0 (i .level) (omega arith) in
     (sym is, h .is-q ∙ ap (λ (w : Bool). cond w (derivativeAt (i .path) (i .coefficients) (segment f) (tau f .0) 0) (start p .args .q .now)) (sym always) ∙ written 0 (start p .args .q .now), h .is-dq ∙ written 1 (start p .args .dq .now), h .is-ddq ∙ written 2 (start p .args .ddq .now), h .is-dddq ∙ written 3 (start p .args .dddq .now))
 
@@ -129,7 +129,7 @@ eval-at-spec =
     segment-tau-requires
     enum-told
     enum-known-segment
-    eval-level-requires
+    eval-axes-requires
     returns-2
     same-length
     same-length-2
