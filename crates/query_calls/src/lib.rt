@@ -1,5 +1,6 @@
 // What the programs have in common that try the query out: a call, what is looked at after it, its line and
-// its count. Each of the four buffers holds a pattern before, with cells on both sides that are not lent.
+// its count. Each of the four buffers holds a pattern before, with cells on both sides that are not lent. The
+// query is asked by way of a path, so that the functions above it are run too.
 use rules::PathParam;
 use rules::PathRecord;
 use trials::Tally;
@@ -106,7 +107,7 @@ fn asked(c: Call, table: &[f64]) -> Outcome {
     buffer::fill(&mut dq, 0.5);
     buffer::fill(&mut ddq, 0.5);
     buffer::fill(&mut dddq, 0.5);
-    let number = query::eval_at(
+    let number = path::eval_path(
         record(c),
         &table[0..given],
         PathParam(c.s),
