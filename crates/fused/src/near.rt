@@ -5,7 +5,7 @@
 ghost use mathlib.Core.Path.{_≡_};
 ghost use Prim.Native.Nat.{ℕ, _+_, _-_, _*_, _%_, _^_, _≤_, _<_};
 ghost use mathlib.Core.Logic.{_⊎_};
-ghost use mathlib.Core.Bool.{true, false, not, cond};
+ghost use mathlib.Core.Bool.{true, false, cond};
 ghost use lib.Ieee.Exact.{HasValue};
 ghost use Rattle.rounding.specs.Sticky.{Sticky};
 ghost use Rattle.fused.specs.Words.{value};

@@ -1,24 +1,23 @@
 -- A query's number, by the questions asked before the lookup and by the lookup's answer; what each of the four buffers then is; and what the evaluation may rely on.
 -- Assumes nothing.
-use mathlib.Core.Path.{_≡_, refl, sym, ap, _∙_, subst}
-use mathlib.Core.Bool.{Bool, true, false, cond, not, _&&_, _||_}
+use mathlib.Core.Path.{_≡_, refl, sym, ap, _∙_}
+use mathlib.Core.Bool.{Bool, true, false, cond, _&&_}
 use mathlib.Core.List.{List, []}
 use Prim.Native.Nat.{ℕ, _<_, _≤_}
 use native.Mathlib.Omega.{arith}
 use borrow.Author.Tests.{le-leb, ne-eqb}
 use lib.Dec.{T, leb, eqb, leb→le, eqb→eq}
-use lib.ListN.{length, take}
+use lib.ListN.{take}
 use lib.Ieee.{Float, eq, le}
-use lib.Ieee.Fits.{and-l, and-r}
+use lib.Ieee.Fits.{and-r}
 use Rattle.rules.specs.declared.PathParam.{PathParam}
 use Rattle.rules.specs.declared.PathRecord.{PathRecord}
 use Rattle.rules.specs.declared.SegmentUnits.{SegmentUnits}
-use Rattle.rules.specs.declared.Lookup.{Lookup}
 use Rattle.rules.specs.declared.Lookup.the-variants.{At, OutOfRange}
 use Rattle.rules.specs.Floats.{+0, ofCount}
 use Rattle.rules.specs.Questions.{firstNo}
 use Rattle.rules.specs.Build.{validAxes, validRange, invDs}
-use Rattle.rules.specs.Query.{QueryInput, Lengths, writes, validLength, inRange, clamped, scaled, located, lookup, LookupSays, lookupSays, evalPoly, perUnitOfS, segmentOf, queryQuestions, queryNumber, derivative, derivativeAfter}
+use Rattle.rules.specs.Query.{QueryInput, Lengths, writes, inRange, clamped, scaled, located, lookup, LookupSays, lookupSays, evalPoly, perUnitOfS, segmentOf, queryQuestions, queryNumber, derivative, derivativeAfter}
 use Rattle.rules.specs.Lists.{listed}
 use Rattle.rules.proofs.Query.{long-enough}
 use Rattle.rules.proofs.Questions.{answerAt, said-yes, first-no, first-yes, yes-to, no-to}

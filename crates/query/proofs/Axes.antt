@@ -13,7 +13,6 @@ use Rattle.rules.specs.Floats.{+0}
 use Rattle.rules.specs.Query.{Lengths, writes, evalPoly, perUnitOfS}
 use Rattle.rules.proofs.Build.{by-order}
 use Rattle.rules.proofs.Cells.{cell-inside}
-use Rattle.rules.proofs.Filling.{filled}
 use Rattle.rules.proofs.Fills as Fills
 use Rattle.rules.proofs.Fills.{Filled}
 use Rattle.rules.proofs.Lists.{part-inside}

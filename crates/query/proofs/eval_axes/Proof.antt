@@ -1,5 +1,5 @@
 -- The loop's invariant: each buffer that the level writes holds its derivative of the axes below `axis`. Assumes nothing.
-use mathlib.Core.Path.{_≡_, refl, sym, ap, _∙_}
+use mathlib.Core.Path.{_≡_, ap, _∙_}
 use mathlib.Core.Bool.{Bool, true}
 use mathlib.Core.List.{List}
 use Prim.Native.Nat.{ℕ, _+_, _*_, _-_, _<_, _≤_}
@@ -8,7 +8,6 @@ use native.Mathlib.Omega.{arith}
 use lib.ListN.{length, take, drop}
 use lib.Ieee.{Float}
 use borrow.Author.Needs.{needs}
-use Rattle.rules.specs.declared.PathRecord.{PathRecord}
 use Rattle.rules.specs.Floats.{_⊗_}
 use Rattle.rules.specs.Query.{writes, evalPoly, perUnitOfS, segmentOf}
 use Rattle.rules.proofs.Fills as Fills
