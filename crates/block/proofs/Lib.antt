@@ -3,7 +3,6 @@ pub mod Elimination
 pub mod Exchange
 pub mod Factors
 pub mod Magnitude
-pub mod Nodes
 pub mod Pivots
 pub mod Steps
 pub mod Sums

@@ -1,15 +1,15 @@
 -- Single steps of crates/rules/specs/Solve.antt by themselves, for the functions that make them. A reader of the public contracts needs none of these. Assumes nothing.
 use mathlib.Core.Path.{_≡_}
-use Prim.Native.Nat.{ℕ, _*_, _/_, _%_, _≤_}
+use Prim.Native.Nat.{ℕ, _*_, _/_, _%_}
 use mathlib.Core.Bool.{cond, _||_}
 use mathlib.Core.List.{List, _++_}
 use lib.ListN.{length, drop}
 use lib.Dec.{leb, ltb, eqb}
 use lib.Ieee.{Float}
-use Rattle.rules.specs.Floats.{_⊖_, _⊗_, _⊘_, _!_, sumOf}
+use Rattle.rules.specs.Floats.{_⊖_, _⊗_, _⊘_, _!_}
 use Rattle.rules.specs.Lists.{listed}
 use Rattle.rules.specs.Solve.{entry}
-use Rattle.block.specs.Kept.{Below, nodeSolved}
+use Rattle.block.specs.Kept.{Below}
 
 -- what solving is lent: a factored matrix with its rows, a right side, and room for the result
 pub record Solvable (m : ℕ) (entries : List Float) (rows : List ℕ) (b y : List Float) : Type 0 where
@@ -46,11 +46,3 @@ backwardCell m entries y k i =
 
 unfoldable pub backwardStep : ℕ → List Float → List Float → ℕ → List Float
 backwardStep m entries y k = listed m (backwardCell m entries y k)
-
--- an entry of B − A·(previous solved C)
-abbrev pub nextEntry : ℕ → List Float → List Float → List Float → ℕ → ℕ → Float
-nextEntry m a b previous r c = entry m b r c ⊖ sumOf m (λ k. entry m a r k ⊗ entry m previous k c)
-
--- the list starts with solved C of the first i inner nodes
-abbrev pub SolvedTo : ℕ → ℕ → List Float → Type 0
-SolvedTo m i solved = (i * (m * m) ≤ length solved) × (solved ≡ nodeSolved m i ++ drop (i * (m * m)) solved)

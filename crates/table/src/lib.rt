@@ -4,7 +4,7 @@ ghost use mathlib.Core.Path.{_≡_};
 ghost use mathlib.Core.Bool.{cond};
 ghost use Prim.Native.Nat.{_+_, _*_, _≤_, _<_};
 ghost use lib.ListN.{length};
-ghost use Rattle.block.specs.Kept.{Room};
+ghost use Rattle.nodes.specs.Kept.{Room};
 ghost use Rattle.thomas.specs.Kept.{Matrices};
 ghost use Rattle.table.specs.Axes.{Shared, Fillable, axisTable, allAxes, everyNode};
 use rules::BoundaryState;
@@ -152,7 +152,7 @@ fn solve_general_thomas(
     requires { ⌜ Fillable m n axes (now waypoints) «start_state» (now start) «end_state» (now end) (now coeffs) × Matrices m (now a) (now b) (now c) (now r) (now «h_coeff») × Room m n (now entries) (now rows) (now «solved_c») × (length (now ends) ≡ m + m) × (length (now side) ≡ m) × (n * m ≤ length (now solved)) ⌝ }
     ensures { λ ok. ⌜ (ok ≡ everyNode m n) × (now (coeffs .exit) ≡ cond ok (allAxes m n axes (now (waypoints .entry)) «inv_ds» «start_state» (now (start .entry)) «end_state» (now (end .entry))) (now (coeffs .entry))) ⌝ }
 {
-    if !block::factor_nodes(m, n, a, b, c, entries, rows, solved_c) {
+    if !nodes::factor_nodes(m, n, a, b, c, entries, rows, solved_c) {
         return false;
     }
     fill_axes(

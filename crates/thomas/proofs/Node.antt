@@ -8,10 +8,11 @@ use lib.Ieee.{Float}
 use Rattle.rules.specs.Tables.{B}
 use Rattle.rules.specs.Solve.{nodeMatrix, nodeFactors, solvedC}
 use Rattle.rules.proofs.Lists.{part-inside}
-use Rattle.block.specs.Kept.{Below, Room, transposed, nodeEntries, nodeRows, nodeSolved}
+use Rattle.block.specs.Kept.{Below, transposed}
+use Rattle.nodes.specs.Kept.{Room, nodeEntries, nodeRows, nodeSolved}
 use Rattle.block.proofs.Factors.{length-rows, rows-below}
 use Rattle.rules.proofs.Parts.{Parted, kept, part-at}
-use Rattle.block.proofs.Nodes.{length-entries, length-node-rows, length-solved}
+use Rattle.nodes.proofs.Nodes.{length-entries, length-node-rows, length-solved}
 use Rattle.thomas.specs.Axis.{NodeFactors, NodeSolved, NodeAt}
 use Rattle.rules.proofs.Lent.{part-size, part-length}
 

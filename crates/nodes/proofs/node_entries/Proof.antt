@@ -1,4 +1,4 @@
--- `block::node_entries` gives the matrix of inner node i: at the first it copies B, and past it lends the part of solved C that the node before left.
+-- `nodes::node_entries` gives the matrix of inner node i: at the first it copies B, and past it lends the part of solved C that the node before left.
 -- Assumes nothing.
 use mathlib.Core.Path.{_≡_, sym, ap, _∙_}
 use Prim.Native.Nat.{ℕ, _+_, _*_, _-_}
@@ -6,10 +6,10 @@ use native.Mathlib.Omega.{arith}
 use borrow.Author.Needs.{needs}
 use lib.ListN.{length}
 use Rattle.rules.proofs.Cells.{next-part}
-use Rattle.block.proofs.Nodes.{first-matrix, node-after}
+use Rattle.nodes.proofs.Nodes.{first-matrix, node-after}
 use Rattle.block.proofs.Transposed.{length-transposed}
-use Rattle.block.proofs.node_entries.Statement.{statement}
-use Rattle.block.proofs.node_entries.Tie as tie
+use Rattle.nodes.proofs.node_entries.Statement.{statement}
+use Rattle.nodes.proofs.node_entries.Tie as tie
 
 -- the part of the node before ends where this node's would start
 ends : (c : tie.Else1) → let args = c .before .before .before .before .before .args in (args .i - 1) * (args .m * args .m) + args .m * args .m ≡ args .i * (args .m * args .m)

@@ -1,4 +1,4 @@
--- `block::factor_nodes` goes from node to node. The loop's invariant: the first i nodes are done, each list has their parts and its own cells from there on,
+-- `nodes::factor_nodes` goes from node to node. The loop's invariant: the first i nodes are done, each list has their parts and its own cells from there on,
 -- and `ok` says whether no pivot of theirs is zero. Assumes nothing.
 use mathlib.Core.Path.{_≡_, refl, sym, _∙_}
 use mathlib.Core.Bool.{true, false}
@@ -8,14 +8,15 @@ use native.Mathlib.Omega.{arith}
 use borrow.Author.Needs.{needs}
 use Rattle.rules.specs.Lists.{every}
 use Rattle.rules.specs.Solve.{nonzeroPivots, nodeFactors, solvedC}
-use Rattle.block.specs.Kept.{transposed, nodeEntries, nodeRows, nodeSolved}
+use Rattle.block.specs.Kept.{transposed}
+use Rattle.nodes.specs.Kept.{nodeEntries, nodeRows, nodeSolved}
 use Rattle.rules.proofs.Lists.{part-inside}
 use Rattle.rules.proofs.Cells.{next-part}
-use Rattle.block.proofs.Nodes.{length-entries, length-node-rows, length-solved}
+use Rattle.nodes.proofs.Nodes.{length-entries, length-node-rows, length-solved}
 use Rattle.rules.proofs.Parts.{Parted, none, kept, step, own, later}
 use Rattle.block.proofs.Pivots.{every-more}
-use Rattle.block.proofs.factor_nodes.Statement.{statement}
-use Rattle.block.proofs.factor_nodes.Tie as tie
+use Rattle.nodes.proofs.factor_nodes.Statement.{statement}
+use Rattle.nodes.proofs.factor_nodes.Tie as tie
 
 abbrev Inv-loop : tie.InvT-loop
 Inv-loop m n a b c entries₀ rows₀ solved₀ ok₀ i₀ entries rows solved ok i =

@@ -9,12 +9,13 @@ use Rattle.rules.specs.Floats.{_⊖_, _!_}
 use Rattle.rules.specs.Tables.{A, B, C}
 use Rattle.rules.specs.Solve.{Factored, entry, matrix, column, factor, solve, solveMatrix, nodeMatrix, nodeFactors, solvedC}
 use Rattle.rules.proofs.Filling.{listed-ext, matrix-ext, length-matrix, parts-at}
-use Rattle.block.specs.Kept.{transposed, Tables, nodeSolved}
-use Rattle.block.specs.Steps.{nextEntry, SolvedTo}
+use Rattle.block.specs.Kept.{transposed}
+use Rattle.nodes.specs.Kept.{Tables, nodeSolved}
+use Rattle.nodes.specs.Steps.{nextEntry, SolvedTo}
 use Rattle.block.proofs.Factors.{length-factor, length-rows}
 use Rattle.rules.proofs.Parts.{Parted}
 use Rattle.block.proofs.Sums.{sumOf-ext}
 use Rattle.block.proofs.Transposed.{transposed-at, length-transposed}
 
 module _ (m : ℕ) where
   -- by columns and by rows again

@@ -1,4 +1,4 @@
--- `block::node_matrix` gives the next node's matrix. The loop's invariant: out has the first r rows, and its own cells from there on.
+-- `nodes::node_matrix` gives the next node's matrix. The loop's invariant: out has the first r rows, and its own cells from there on.
 -- A turn lends the part for row r. Assumes nothing.
 use Prim.Native.Nat.{_+_, _*_, _-_, _≤_}
 use native.Mathlib.Omega.{arith}
@@ -6,12 +6,12 @@ use borrow.Author.Needs.{needs}
 use Rattle.rules.specs.Lists.{listed}
 use Rattle.rules.specs.Solve.{matrix}
 use Rattle.rules.proofs.Lists.{length-listed, part-inside}
 use Rattle.block.specs.Kept.{transposed}
-use Rattle.block.specs.Steps.{nextEntry}
+use Rattle.nodes.specs.Steps.{nextEntry}
 use Rattle.rules.proofs.Parts.{Parted, none, kept, step, whole}
 use Rattle.rules.proofs.Cells.{next-part}
-use Rattle.block.proofs.node_matrix.Statement.{statement}
-use Rattle.block.proofs.node_matrix.Tie as tie
+use Rattle.nodes.proofs.node_matrix.Statement.{statement}
+use Rattle.nodes.proofs.node_matrix.Tie as tie
 
 abbrev Inv-loop : tie.InvT-loop
 Inv-loop m a b previous out₀ r₀ out r = (r ≤ m) × Parted m r (λ i. listed m (nextEntry m (transposed m a) b (transposed m previous) i)) out₀ out

@@ -1,16 +1,16 @@
--- `block::factor_node` factors inner node i and solves C with it, from what its three calls give. Assumes nothing.
+-- `nodes::factor_node` factors inner node i and solves C with it, from what its three calls give. Assumes nothing.
 use mathlib.Core.Path.{ap, _∙_}
 use native.Mathlib.Omega.{arith}
 use borrow.Author.Needs.{needs}
 use lib.ListN.{length}
 use Rattle.rules.specs.Solve.{nodeFactors}
-use Rattle.block.specs.Kept.{nodeSolved}
+use Rattle.nodes.specs.Kept.{nodeSolved}
 use Rattle.block.proofs.Factors.{rows-below}
-use Rattle.block.proofs.Nodes.{solved-node, solved-parts}
+use Rattle.nodes.proofs.Nodes.{solved-node, solved-parts}
 use Rattle.rules.proofs.Parts.{step}
 use Rattle.block.proofs.Transposed.{length-transposed}
-use Rattle.block.proofs.factor_node.Statement.{statement}
-use Rattle.block.proofs.factor_node.Tie as tie
+use Rattle.nodes.proofs.factor_node.Statement.{statement}
+use Rattle.nodes.proofs.factor_node.Tie as tie
 
 abbrev begun : tie.After-factor → tie.Start
 begun c = c .before .before .before .before .before .before .before .before .before .before .before .before .before .before

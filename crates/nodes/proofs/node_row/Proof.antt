@@ -1,16 +1,16 @@
--- `block::node_row` gives row r of the next node's matrix. The loop's invariant: out has the row's cells below c, and its own from c on.
+-- `nodes::node_row` gives row r of the next node's matrix. The loop's invariant: out has the row's cells below c, and its own from c on.
 -- A cell's sum is one row of A times one column of the previous matrix. Assumes nothing.
 use Prim.Native.Nat.{_+_, _*_, _-_, _≤_, _<_}
 use native.Mathlib.Omega.{arith}
 use borrow.Author.Needs.{needs}
 use Rattle.block.specs.Kept.{transposed}
-use Rattle.block.specs.Steps.{nextEntry}
+use Rattle.nodes.specs.Steps.{nextEntry}
 use Rattle.rules.proofs.Lists.{part-inside}
 use Rattle.rules.proofs.Cells.{read, cell-inside}
 use Rattle.rules.proofs.Fills.{Filled, none, kept, step, whole}
 use Rattle.block.proofs.Transposed.{row-times-column}
-use Rattle.block.proofs.node_row.Statement.{statement}
-use Rattle.block.proofs.node_row.Tie as tie
+use Rattle.nodes.proofs.node_row.Statement.{statement}
+use Rattle.nodes.proofs.node_row.Tie as tie
 
 abbrev Inv-loop : tie.InvT-loop
 Inv-loop m r a b previous out₀ c₀ out c = Filled c (nextEntry m (transposed m a) b (transposed m previous) r) out₀ out
