@@ -18,7 +18,7 @@ use Rattle.rules.specs.Build.{BuildInput, validAxes, validState, buildQuestions
 use Rattle.rules.proofs.Questions.{answerAt, said-yes}
 use Rattle.rules.proofs.Build.{by-order, coefficient-count}
 use Rattle.rules.proofs.Filling.{joined-ext}
-use Rattle.thomas.specs.Kept.{HasNumbers}
+use Rattle.segments.specs.Kept.{HasNumbers}
 use Rattle.thomas.specs.Axis.{axisPoints}
 use Rattle.table.specs.Axes.{allAxes, Fillable}
 

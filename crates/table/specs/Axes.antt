@@ -9,8 +9,8 @@ use Rattle.rules.specs.declared.BoundaryState.{BoundaryState}
 use Rattle.rules.specs.Lists.{joined, listed, every}
 use Rattle.rules.specs.Solve.{nonzeroPivots, nodeFactors}
 use Rattle.rules.specs.Build.{axisCoefficients, boundaryNumber}
-use Rattle.thomas.specs.Kept.{UpperTable, HasNumbers}
-use Rattle.thomas.specs.Axis.{axisPoints, SideTables, NodeFactors, NodeSolved}
+use Rattle.segments.specs.Kept.{SideTables, UpperTable, HasNumbers}
+use Rattle.thomas.specs.Axis.{axisPoints, NodeFactors, NodeSolved}
 
 -- what all axes of a build share: the tables, the nodes' matrices, the waypoints, and both states with their numbers
 pub record Shared (m n : ℕ) (r a c h entries : List Float) (rows : List ℕ) (solvedC : List Float) (axes : ℕ) (waypoints : List Float)

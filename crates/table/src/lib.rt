@@ -5,7 +5,7 @@ ghost use mathlib.Core.Bool.{cond};
 ghost use Prim.Native.Nat.{_+_, _*_, _≤_, _<_};
 ghost use lib.ListN.{length};
 ghost use Rattle.nodes.specs.Kept.{Room};
-ghost use Rattle.thomas.specs.Kept.{Matrices};
+ghost use Rattle.segments.specs.Kept.{Matrices};
 ghost use Rattle.table.specs.Axes.{Shared, Fillable, axisTable, allAxes, everyNode};
 use rules::BoundaryState;
 
@@ -36,7 +36,7 @@ fn fill_axis(
     requires { ⌜ Shared m n (now r) (now a) (now c) (now «h_coeff») (now entries) (now rows) (now «solved_c») axes (now waypoints) «start_state» (now start) «end_state» (now end) × (axis < axes) × (length (now ends) ≡ m + m) × (length (now side) ≡ m) × (n * m ≤ length (now solved)) × (length (now chunk) ≡ (n + 1) * (2 * m + 2)) ⌝ }
     ensures { λ x. ⌜ now (chunk .exit) ≡ axisTable m n axes (now (waypoints .entry)) «inv_ds» «start_state» (now (start .entry)) «end_state» (now (end .entry)) axis ⌝ }
 {
-    thomas::boundary::both_ends(
+    segments::boundary::both_ends(
         m,
         axes,
         inv_ds,
@@ -200,7 +200,7 @@ fn factor_and_fill(
     requires { ⌜ Fillable m n axes (now waypoints) «start_state» (now start) «end_state» (now end) (now coeffs) × Room m n (now entries) (now rows) (now «solved_c») × (n * m ≤ length (now solved)) ⌝ }
     ensures { λ ok. ⌜ (ok ≡ everyNode m n) × (now (coeffs .exit) ≡ cond ok (allAxes m n axes (now (waypoints .entry)) «inv_ds» «start_state» (now (start .entry)) «end_state» (now (end .entry))) (now (coeffs .entry))) ⌝ }
 {
-    let t = thomas::tables::for_order(m);
+    let t = segments::tables::for_order(m);
     let a = t.a;
     let b = t.b;
     let c = t.c;

@@ -1,76 +1,56 @@
--- The numbers of a node by its place: of the first, of one between, and of the last. How long they are, and what they are of a solved list; so the
--- segments that are made of them are the axis's. A point of an axis is a waypoint. Assumes nothing.
+-- The numbers of the nodes of a solved list are the definition's, so the segments that are made of them are the axis's. A point of an axis is a
+-- waypoint. Assumes nothing.
 use mathlib.Core.Path.{_≡_, refl, sym, ap, ap₂, _∙_}
 use mathlib.Core.List.{List, _++_}
 use mathlib.Core.Logic.{_⊎_, inl, inr}
 use Prim.Native.Nat.{ℕ, zero, suc, _+_, _-_, _*_, _<_, _≤_}
-use native.Mathlib.Nat.{le-of-suc-le-suc, not-suc-le-zero}
 use native.Mathlib.Omega.{arith}
 use borrow.Author.Tests.{lt-ltb, le-ltb}
-use lib.ListN.{length, take, drop, length-drop}
-use lib.Seq.{drop-at, length-take-le}
+use lib.ListN.{length, take, drop}
+use lib.Seq.{drop-at}
 use lib.Ieee.{Float}
 use Rattle.rules.specs.Floats.{_⊖_, _!_, +0}
 use Rattle.rules.specs.Lists.{joined}
 use Rattle.rules.specs.Build.{dy, segmentCoefficients, innerNumbers, nodeNumbers, axisCoefficients}
-use Rattle.rules.proofs.Lists.{length-joined, part-inside}
+use Rattle.rules.proofs.Lists.{length-joined}
 use Rattle.rules.proofs.Filling.{lt-or-le, listed-at, joined-ext, parts-at}
 use Rattle.rules.proofs.Build.{length-inner}
 use Rattle.rules.proofs.Cells.{cell-inside}
-use Rattle.thomas.specs.Axis.{AxisOf, axisPoints, nodePart, segmentOf}
+use Rattle.segments.specs.Kept.{nodePart}
+use Rattle.thomas.specs.Axis.{AxisOf, axisPoints, segmentOf}
 
-module _ (m n : ℕ) (boundary solved : List Float) where
-  pub last-part : (i : ℕ) → n < i → nodePart m n boundary solved i ≡ take m (drop m boundary)
-  unfolding nodePart
-  last-part zero h = absurd (not-suc-le-zero h)
-  last-part (suc i) h = rw (le-ltb i n (le-of-suc-le-suc h))
+-- rest is what the solved list has past the inner nodes' numbers
+module _ (m n : ℕ) (boundary solved w rest : List Float) where
+  abbrev first : List Float
+  first = take m boundary
 
-  pub inner-part : (i : ℕ) → 0 < i → i ≤ n → nodePart m n boundary solved i ≡ take m (drop ((i - 1) * m) solved)
-  unfolding nodePart
-  inner-part zero p h = absurd (not-suc-le-zero p)
-  inner-part (suc i) p h = rw (lt-ltb i n h) (ap (λ (k : ℕ). take m (drop (k * m) solved)) (omega arith))
+  abbrev last : List Float
+  last = take m (drop m boundary)
 
-  pub length-part : length boundary ≡ m + m → n * m ≤ length solved → (i : ℕ) → length (nodePart m n boundary solved i) ≡ m
-  unfolding nodePart
-  length-part both all zero = length-take-le m boundary (omega arith)
-  length-part both all (suc i) = go (lt-or-le i n)
+  abbrev inner : ℕ → List Float
+  inner j = innerNumbers m n w first last j (n - suc j)
+
+  pub nodes-are : solved ≡ joined n inner ++ rest → (i : ℕ) → nodePart m n boundary solved i ≡ nodeNumbers m n w first last i
+  unfolding nodePart nodeNumbers
+  nodes-are e zero = refl
+  nodes-are e (suc i) = go (lt-or-le i n)
     where
-      go : (i < n) ⊎ (n ≤ i) → length (nodePart m n boundary solved (suc i)) ≡ m
-      go (inl h) = rw (lt-ltb i n h) (length-take-le m (drop (i * m) solved) (simp length-drop (omega (arith, part-inside m h))))
-      go (inr h) = rw (le-ltb i n h) (length-take-le m (drop m boundary) (simp length-drop (omega arith)))
+      sized : (j : ℕ) → j < n → length (inner j) ≡ m
+      sized j l = length-inner m n w first last j (n - suc j)
 
-  -- rest is what the solved list has past the inner nodes' numbers
-  module _ (w rest : List Float) where
-    abbrev first : List Float
-    first = take m boundary
+      whole : solved ≡ joined n inner ++ drop (n * m) solved
+      whole =
+          e
+          ∙ ap (λ (xs : List Float). joined n inner ++ xs)
+          (sym (ap (drop (n * m)) e ∙ drop-at (joined n inner) rest (n * m) (length-joined n m inner sized)))
 
-    abbrev last : List Float
-    last = take m (drop m boundary)
+      go : (i < n) ⊎ (n ≤ i) → nodePart m n boundary solved (suc i) ≡ nodeNumbers m n w first last (suc i)
+      go (inl l) = rw (lt-ltb i n l) (ap (λ (xs : List Float). take m (drop (i * m) xs)) whole ∙ parts-at m inner n solved i sized l)
+      go (inr l) = rw (le-ltb i n l)
 
-    abbrev inner : ℕ → List Float
-    inner j = innerNumbers m n w first last j (n - suc j)
-
-    pub nodes-are : solved ≡ joined n inner ++ rest → (i : ℕ) → nodePart m n boundary solved i ≡ nodeNumbers m n w first last i
-    unfolding nodePart nodeNumbers
-    nodes-are e zero = refl
-    nodes-are e (suc i) = go (lt-or-le i n)
-      where
-        sized : (j : ℕ) → j < n → length (inner j) ≡ m
-        sized j l = length-inner m n w first last j (n - suc j)
-
-        whole : solved ≡ joined n inner ++ drop (n * m) solved
-        whole =
-            e
-            ∙ ap (λ (xs : List Float). joined n inner ++ xs)
-            (sym (ap (drop (n * m)) e ∙ drop-at (joined n inner) rest (n * m) (length-joined n m inner sized)))
-
-        go : (i < n) ⊎ (n ≤ i) → nodePart m n boundary solved (suc i) ≡ nodeNumbers m n w first last (suc i)
-        go (inl l) = rw (lt-ltb i n l) (ap (λ (xs : List Float). take m (drop (i * m) xs)) whole ∙ parts-at m inner n solved i sized l)
-        go (inr l) = rw (le-ltb i n l)
-
-    pub axis-is : solved ≡ joined n inner ++ rest → joined (n + 1) (segmentOf m n w boundary solved) ≡ axisCoefficients m n w first last
-    unfolding axisCoefficients
-    axis-is e = joined-ext (n + 1) _ _ (λ i h. ap₂ (segmentCoefficients m (w ! i) (dy w i)) (nodes-are e i) (nodes-are e (suc i)))
+  pub axis-is : solved ≡ joined n inner ++ rest → joined (n + 1) (segmentOf m n w boundary solved) ≡ axisCoefficients m n w first last
+  unfolding axisCoefficients
+  axis-is e = joined-ext (n + 1) _ _ (λ i h. ap₂ (segmentCoefficients m (w ! i) (dy w i)) (nodes-are e i) (nodes-are e (suc i)))
 
 -- ---- the points of an axis
 

@@ -16,7 +16,8 @@ use Rattle.rules.specs.Solve.{entry, times, minus, solve, nodeFactors}
 use Rattle.rules.specs.Build.{dy, rightSide, boundedSide, solvedSide}
 use Rattle.block.specs.Kept.{transposed}
 use Rattle.block.proofs.Transposed.{length-transposed, transposed-twice}
-use Rattle.thomas.specs.Axis.{SideTables, fullSide}
+use Rattle.segments.specs.Kept.{SideTables}
+use Rattle.thomas.specs.Axis.{fullSide}
 
 module _ {m : ℕ} {r a c : List Float} (t : SideTables m r a c) where
   pub a-long : length a ≡ m * m

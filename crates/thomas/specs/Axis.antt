@@ -1,6 +1,6 @@
 -- What the functions of one axis are lent. Assumes nothing.
 use mathlib.Core.Path.{_≡_}
-use Prim.Native.Nat.{ℕ, zero, suc, _+_, _-_, _*_, _<_, _≤_}
+use Prim.Native.Nat.{ℕ, suc, _+_, _-_, _*_, _<_, _≤_}
 use mathlib.Core.Bool.{cond}
 use mathlib.Core.List.{List, _++_}
 use lib.ListN.{length, take, drop}
@@ -8,10 +8,11 @@ use lib.Dec.{ltb}
 use lib.Ieee.{Float}
 use Rattle.rules.specs.Floats.{_!_}
 use Rattle.rules.specs.Lists.{listed}
-use Rattle.rules.specs.Tables.{A, C, R}
+use Rattle.rules.specs.Tables.{A}
 use Rattle.rules.specs.Solve.{times, minus, nodeFactors, solvedC}
 use Rattle.rules.specs.Build.{dy, segmentCoefficients, boundedSide, solvedSide}
 use Rattle.block.specs.Kept.{transposed}
+use Rattle.segments.specs.Kept.{nodePart}
 
 -- an axis's waypoints, of a list that is column-major, axes by points
 unfoldable pub axisPoints : ℕ → ℕ → List Float → ℕ → List Float
@@ -20,16 +21,6 @@ axisPoints points axes waypoints axis = listed points (λ p. waypoints ! (p * ax
 pub record AxisOf (points axes axis : ℕ) (waypoints : List Float) : Type 0 where
   pub axis-below : axis < axes
   pub waypoints-length : length waypoints ≡ points * axes
-
--- the tables that a right side is made with: A and C by columns
-pub record SideTables (m : ℕ) (r a c : List Float) : Type 0 where
-  pub r-is : r ≡ R m
-  pub r-length : length r ≡ m * 2
-  pub a-is : a ≡ transposed m (A m)
-  pub a-length : length (A m) ≡ m * m
-  pub c-is : c ≡ transposed m (C m)
-  pub c-length : length (C m) ≡ m * m
-  pub some : 1 ≤ m
 
 -- of n inner nodes, one after the other: the factored matrices and their rows
 pub record NodeFactors (m n : ℕ) (entries : List Float) (rows : List ℕ) : Type 0 where
@@ -63,11 +54,6 @@ abbrev pub fullSide : ℕ → ℕ → List Float → List Float → List Float �
 fullSide m n w start end i =
     let side = boundedSide m n w start end i in
     cond (ltb 0 i) (minus m side (times m (A m) (solvedSide m n w start end (i - 1)))) side
-
--- the numbers of a node: of the first, of the last, and between
-unfoldable pub nodePart : ℕ → ℕ → List Float → List Float → ℕ → List Float
-nodePart m n boundary solved zero = take m boundary
-nodePart m n boundary solved (suc i) = cond (ltb i n) (take m (drop (i * m) solved)) (take m (drop m boundary))
 
 -- segment i's coefficients, with its nodes' numbers as they are kept
 abbrev pub segmentOf : ℕ → ℕ → List Float → List Float → List Float → ℕ → List Float

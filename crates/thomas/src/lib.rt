@@ -1,7 +1,3 @@
-// One axis of a build by the block-Thomas algorithm, modules 2, 3 and the first half of 5 of document 01: the tables,
-// the numbers of both ends, the parts of a segment, and `thomas_row` over them. What its functions are held to stands
-// in crates/rules/specs/Build.antt; how the code keeps what it is lent, in specs/.
-pub mod boundary;
+// One axis of a build by the block-Thomas algorithm, modules 2, 3 and the first half of 5 of document 01: `thomas_row`, over
+// the parts in crates/segments. What its functions are held to stands in crates/rules/specs/Build.antt; what they are lent, in specs/.
 pub mod row;
-pub mod segment;
-pub mod tables;

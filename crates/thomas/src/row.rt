@@ -10,13 +10,13 @@ ghost use lib.Ieee.{Float};
 ghost use Rattle.rules.specs.Solve.{times, minus, solve, nodeFactors, solvedC};
 ghost use Rattle.rules.specs.Build.{dy, boundedSide, solvedSide, innerNumbers, axisCoefficients};
 ghost use Rattle.block.specs.Kept.{transposed};
-ghost use Rattle.thomas.specs.Kept.{UpperTable};
-ghost use Rattle.thomas.specs.Axis.{AxisOf, axisPoints, SideTables, NodeFactors, NodeAt, NodeSolved, part, put, fullSide, segmentOf};
-use crate::segment::compute_rhs;
-use crate::segment::dy;
-use crate::segment::node_numbers;
-use crate::segment::waypoint;
-use crate::segment::write_segment_coeffs;
+ghost use Rattle.segments.specs.Kept.{SideTables, UpperTable};
+ghost use Rattle.thomas.specs.Axis.{AxisOf, axisPoints, NodeFactors, NodeAt, NodeSolved, part, put, fullSide, segmentOf};
+use segments::segment::compute_rhs;
+use segments::segment::dy;
+use segments::segment::node_numbers;
+use segments::segment::waypoint;
+use segments::segment::write_segment_coeffs;
 
 // v − a·u where it is asked for, and else v; a is kept by columns.
 fn subtract_where(on: bool, m: usize, a: &[f64], u: &[f64], v: &mut [f64])

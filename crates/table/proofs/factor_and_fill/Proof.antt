@@ -1,7 +1,7 @@
 -- `table::factor_and_fill` meets its contract: the tables are lent at their lengths. Assumes nothing.
 use Prim.Native.Nat.{_+_, _≤_}
 use native.Mathlib.Omega.{arith}
-use Rattle.thomas.proofs.Matrices.{a-room, b-room, c-room, r-room, h-room, lent}
+use Rattle.segments.proofs.Matrices.{a-room, b-room, c-room, r-room, h-room, lent}
 use Rattle.rules.proofs.Lent.{start-length}
 use Rattle.table.proofs.Sizes.{matrix-small, upper-small}
 use borrow.Author.Needs.{needs}

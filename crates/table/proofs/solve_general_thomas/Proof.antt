@@ -2,7 +2,7 @@
 use mathlib.Core.Path.{refl, sym, _∙_}
 use borrow.Author.Tests.{not-true, not-false}
 use Rattle.thomas.proofs.Node.{node-factors, node-solved}
-use Rattle.thomas.proofs.Matrices.{side-tables, upper-table}
+use Rattle.segments.proofs.Matrices.{side-tables, upper-table}
 use borrow.Author.Needs.{needs}
 use Rattle.table.proofs.solve_general_thomas.Statement.{statement}
 use Rattle.table.proofs.solve_general_thomas.Tie as tie

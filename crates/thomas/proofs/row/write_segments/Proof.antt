@@ -12,8 +12,10 @@ use Rattle.rules.proofs.Build.{length-segment}
 use Rattle.rules.proofs.Lists.{part-inside}
 use Rattle.rules.proofs.Cells.{cell-inside, next-part}
 use Rattle.rules.proofs.Parts.{Parted, none, kept, step, whole}
-use Rattle.thomas.specs.Axis.{axisPoints, nodePart, segmentOf}
-use Rattle.thomas.proofs.Nodes.{length-part, points-at, points-dy}
+use Rattle.segments.specs.Kept.{nodePart}
+use Rattle.segments.proofs.Nodes.{length-part}
+use Rattle.thomas.specs.Axis.{axisPoints, segmentOf}
+use Rattle.thomas.proofs.Nodes.{points-at, points-dy}
 use borrow.Author.Needs.{needs}
 use Rattle.thomas.proofs.row.write_segments.Statement.{statement}
 use Rattle.thomas.proofs.row.write_segments.Tie as tie

@@ -1,0 +1,5 @@
+pub mod Matrices
+pub mod Nodes
+pub mod Segments
+pub mod States
+pub mod Upper
