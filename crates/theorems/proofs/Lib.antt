@@ -8,3 +8,4 @@ pub mod Exact
 pub mod Derivatives
 pub mod Evaluation
 pub mod Masters
+pub mod Served
