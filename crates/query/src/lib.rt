@@ -27,8 +27,8 @@ fn put(level: u8, k: u8, cells: &mut [f64], axis: usize, x: f64)
     }
 }
 
-// The derivatives of every axis in one segment at tau, per unit of s. Nothing is worked out that the level
-// does not write.
+// The derivatives of every axis in one segment at tau, per unit of s. No derivative is evaluated that the
+// level does not write.
 fn eval_axes(
     path: PathRecord,
     coeffs: &[f64],
