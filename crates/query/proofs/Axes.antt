@@ -10,14 +10,12 @@ use lib.Ieee.{Float}
 use Rattle.rules.specs.declared.PathRecord.{PathRecord}
 use Rattle.rules.specs.Lists.{listed}
 use Rattle.rules.specs.Floats.{+0}
-use Rattle.rules.specs.Query.{Lengths, writes, evalPoly, perUnitOfS}
+use Rattle.rules.specs.Query.{Lengths, evalPoly, perUnitOfS}
 use Rattle.rules.proofs.Build.{by-order}
 use Rattle.rules.proofs.Cells.{cell-inside}
 use Rattle.rules.proofs.Fills as Fills
 use Rattle.rules.proofs.Fills.{Filled}
 use Rattle.rules.proofs.Lists.{part-inside}
-use Rattle.query.specs.declared.poly.Derivatives.{Derivatives}
-use Rattle.query.specs.Level.{asked}
 use Rattle.query.specs.Axes.{Evaluable}
 
 -- ---- a buffer that is written, w, or not: ys is xs with f's cells below i, or xs itself
@@ -51,16 +49,9 @@ abbrev pub cell : ℕ → ℕ → Float → List Float → ℕ → Float → ℕ
 cell order segments inv coefficients segment t k axis =
     perUnitOfS inv k (evalPoly order (take (order + 1) (drop ((axis * segments + segment) * (order + 1)) coefficients)) t k)
 
--- what was worked out for a level that writes derivative k is derivative k
-module _ (level : ℕ) (f : ℕ → Float) {d : Derivatives} (e : d ≡ asked level f) where
-  pub asked-1 : writes level 1 ≡ true → d .dq ≡ f 1
-  asked-1 w = ap (λ (x : Derivatives). x .dq) e ∙ ap (λ (b : Bool). cond b (f 1) +0) w
-
-  pub asked-2 : writes level 2 ≡ true → d .ddq ≡ f 2
-  asked-2 w = ap (λ (x : Derivatives). x .ddq) e ∙ ap (λ (b : Bool). cond b (f 2) +0) w
-
-  pub asked-3 : writes level 3 ≡ true → d .dddq ≡ f 3
-  asked-3 w = ap (λ (x : Derivatives). x .dddq) e ∙ ap (λ (b : Bool). cond b (f 3) +0) w
+-- a number that is asked for where the buffer is written is that number there
+pub asked-for : {w : Bool} {x y : Float} → x ≡ cond w y +0 → w ≡ true → x ≡ y
+asked-for {y = y} e h = e ∙ ap (λ (w : Bool). cond w y +0) h
 
 -- ---- places
 

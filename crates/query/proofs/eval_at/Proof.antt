@@ -54,16 +54,22 @@ inside : (c : tie.After-segment) → let i = given (asked-at c) in range (i .pat
 unfolding lookupSays
 inside c = let i = given (asked-at c) in in-range (i .path) (i .s) (ap (λ (says : LookupSays). says .number) (found c))
 
+-- a refusal: its number, and each buffer as it was
+as-it-was : (p : Place) {number : ℕ} → (number ≡ 0 → ⊥) → queryNumber (given p) (lengths p) ≡ number
+    → let a = start p .args in let after : ℕ → List Float → List Float = derivativeAfter (given p) (lengths p) in
+    (number ≡ queryNumber (given p) (lengths p)) × (a .q .now ≡ after 0 (a .q .now)) × (a .dq .now ≡ after 1 (a .dq .now)) × (a .ddq .now ≡ after 2 (a .ddq .now)) × (a .dddq .now ≡ after 3 (a .dddq .now))
+as-it-was p {number} h is =
+    let a = start p .args in
+    let same : (k : ℕ) (before : List Float) → before ≡ derivativeAfter (given p) (lengths p) k before = λ k before. sym (refused (given p) (lengths p) number h is k before) in
+    (sym is, same 0 (a .q .now), same 1 (a .dq .now), same 2 (a .ddq .now), same 3 (a .dddq .now))
+
 query-questions-requires : tie.Need-query-questions-requires
 query-questions-requires c κs = search needs
 
 returns : tie.Need-returns
 returns c =
     let p = c .before in
-    let a = start p .args in
-    let is : queryNumber (given p) (lengths p) ≡ p .query-questions .result = no-number (given p) (lengths p) (λ e. c .if1 .taken (answer p ∙ e)) ∙ sym (answer p) in
-    let same = refused (given p) (lengths p) (p .query-questions .result) (c .if1 .taken) is in
-    (sym is, sym (same 0 (a .q .now)), sym (same 1 (a .dq .now)), sym (same 2 (a .ddq .now)), sym (same 3 (a .dddq .now)))
+    as-it-was p (c .if1 .taken) (no-number (given p) (lengths p) (λ e. c .if1 .taken (answer p ∙ e)) ∙ sym (answer p))
 
 segment-tau-requires : tie.Need-segment-tau-requires
 segment-tau-requires c κs = segments-known (given (c .before)) (lengths (c .before)) (said-yes c)
@@ -91,9 +97,7 @@ returns-2 c =
     let p = l .before .before in
     let a = start p .args in
     let says : lookupSays (lookup (a .path) (a .s)) .number ≡ 305 = ap (λ (says : LookupSays). says .number) (sym (l .segment-tau .ensures) ∙ ap lookupSays (c .enum-told .given .1)) in
-    let is : queryNumber (given p) (lengths p) ≡ 305 = range-number (given p) (lengths p) (said-yes (l .before)) (out-of-range (a .path) (a .s) says) in
-    let same = refused (given p) (lengths p) 305 (λ e. omega arith) is in
-    (sym is, sym (same 0 (a .q .now)), sym (same 1 (a .dq .now)), sym (same 2 (a .ddq .now)), sym (same 3 (a .dddq .now)))
+    as-it-was p (λ e. omega arith) (range-number (given p) (lengths p) (said-yes (l .before)) (out-of-range (a .path) (a .s) says))
 
 same-length : tie.Need-same-length
 same-length c = search needs

@@ -17,7 +17,7 @@ use Rattle.query.specs.Level.{asked}
 use Rattle.query.specs.Axes.{derivativeAt}
 use Rattle.query.proofs.Axes as Axes
 use Rattle.rules.proofs.Lent.{part-size, part-length}
-use Rattle.query.proofs.Axes.{Written, cell, order-bound, segments-bound, table-bound, segment-inside, part-inside-all, asked-1, asked-2, asked-3}
+use Rattle.query.proofs.Axes.{Written, cell, order-bound, segments-bound, table-bound, segment-inside, part-inside-all, asked-for}
 use Rattle.query.proofs.eval_axes.Statement.{statement}
 use Rattle.query.proofs.eval_axes.Tie as tie
 
@@ -159,9 +159,9 @@ loop-again c =
     record {
       below = omega (arith, i .loop-test .taken);
       is-q = Fills.step (run .is-q) (ap (λ (x : Derivatives). x .q) is) (room-q i);
-      is-dq = Axes.step (run .is-dq) (λ w. ap (λ (x : Float). x ⊗ inv i) (asked-1 (start i .args .level) (derivatives i) is w)) (room i (h .dq)) (first .put .ensures);
-      is-ddq = Axes.step (run .is-ddq) (λ w. ap (λ (x : Float). x ⊗ (inv i ⊗ inv i)) (asked-2 (start i .args .level) (derivatives i) is w)) (room i (h .ddq)) (second .put2 .ensures);
-      is-dddq = Axes.step (run .is-dddq) (λ w. ap (λ (x : Float). x ⊗ (inv i ⊗ inv i ⊗ inv i)) (asked-3 (start i .args .level) (derivatives i) is w)) (room i (h .dddq)) (third .put3 .ensures);
+      is-dq = Axes.step (run .is-dq) (λ w. ap (λ (x : Float). x ⊗ inv i) (asked-for (ap (λ (d : Derivatives). d .dq) is) w)) (room i (h .dq)) (first .put .ensures);
+      is-ddq = Axes.step (run .is-ddq) (λ w. ap (λ (x : Float). x ⊗ (inv i ⊗ inv i)) (asked-for (ap (λ (d : Derivatives). d .ddq) is) w)) (room i (h .ddq)) (second .put2 .ensures);
+      is-dddq = Axes.step (run .is-dddq) (λ w. ap (λ (x : Float). x ⊗ (inv i ⊗ inv i ⊗ inv i)) (asked-for (ap (λ (d : Derivatives). d .dddq) is) w)) (room i (h .dddq)) (third .put3 .ensures);
     }
 
 same-length : tie.Need-same-length Inv-loop μ-loop
