@@ -7,7 +7,7 @@ use native.Mathlib.Nat.{le-refl}
 use native.Mathlib.Omega.{arith}
 use lib.Dec.{T, ltb, ltb→lt}
 use lib.IntN.{ℤ, pos, negsuc, sucℤ, predℤ, natAbs, negℤ, subℕ, _+ℤ_, _-ℤ_, _*ℤ_, sucℤ-+ℤ, predℤ-+ℤ, sucℤ-*ℤ, predℤ-*ℤ}
-use lib.IntN.{+ℤ-idl, +ℤ-assoc, +ℤ-comm, zero-*ℤ, one, *ℤ-one, *ℤ-comm, negℤ-negℤ}
+use lib.IntN.{+ℤ-idl, +ℤ-assoc, +ℤ-comm, -ℤ-+ℤ-cancel, zero-*ℤ, one, *ℤ-one, *ℤ-comm, negℤ-negℤ}
 
 -- ---- sums
 
@@ -16,6 +16,10 @@ pub +ℤ-right-comm : (a b c : ℤ) → a +ℤ b +ℤ c ≡ a +ℤ c +ℤ b
 
 pub +ℤ-swap : (a b c d : ℤ) → a +ℤ b +ℤ (c +ℤ d) ≡ a +ℤ c +ℤ (b +ℤ d)
 +ℤ-swap a b c d = sym (+ℤ-assoc (a +ℤ b) c d) ∙ ap (λ (x : ℤ). x +ℤ d) (+ℤ-right-comm a b c) ∙ +ℤ-assoc (a +ℤ c) b d
+
+-- two numbers whose difference is zero
+pub difference-zero : (a b : ℤ) → a -ℤ b ≡ pos 0 → a ≡ b
+difference-zero a b e = sym (-ℤ-+ℤ-cancel a b) ∙ ap (λ (x : ℤ). x +ℤ b) e ∙ +ℤ-idl b
 
 -- ---- products
 
@@ -75,6 +79,9 @@ pub *ℤ-assoc : (a b c : ℤ) → a *ℤ b *ℤ c ≡ a *ℤ (b *ℤ c)
 *ℤ-assoc (pos (suc n)) b c = assoc-more (pos n) b c (*ℤ-assoc (pos n) b c)
 *ℤ-assoc (negsuc zero) b c = assoc-less (pos zero) b c (assoc-none b c)
 *ℤ-assoc (negsuc (suc n)) b c = assoc-less (negsuc n) b c (*ℤ-assoc (negsuc n) b c)
+
+pub *ℤ-left-comm : (a b c : ℤ) → a *ℤ (b *ℤ c) ≡ b *ℤ (a *ℤ c)
+*ℤ-left-comm a b c = sym (*ℤ-assoc a b c) ∙ ap (λ (z : ℤ). z *ℤ c) (*ℤ-comm a b) ∙ *ℤ-assoc b a c
 
 -- ---- magnitudes
 

@@ -1,2 +1,4 @@
 pub mod Laws
 pub mod Signs
+pub mod Squares
+pub mod Ring

@@ -28,7 +28,7 @@ fn is_finite(x: f64) -> bool
 }
 
 // Question 1.
-fn valid_order(order: usize) -> bool
+pub fn valid_order(order: usize) -> bool
     ensures { λ r. ⌜ r ≡ validOrder order ⌝ }
 {
     if order == 3 {

@@ -1,15 +1,16 @@
 -- Laws of the lists and tests that the definitions are made of: how long a list is, where a part of it stands, and what a passed test says.
 -- Assumes nothing.
 use mathlib.Core.Path.{_≡_, refl, sym, ap, _∙_, subst}
-use mathlib.Core.Bool.{Bool}
+use mathlib.Core.Bool.{Bool, true, false, _&&_}
 use mathlib.Core.List.{List, [], _∷_, _++_}
 use mathlib.Core.Logic.{_⊎_, inl, inr}
 use Prim.Native.Nat.{ℕ, zero, suc, _+_, _*_, _<_, _≤_}
-use native.Mathlib.Nat.{eq-or-lt-of-le, le-of-suc-le-suc, not-suc-le-zero, le-of-eq, add-zero, add-mul, zero-mul, suc-mul, mul-assoc, mul-le-mul-right}
+use native.Mathlib.Nat.{eq-or-lt-of-le, le-of-suc-le-suc, le-antisymm, not-suc-le-zero, le-of-eq, add-zero, add-mul, zero-mul, suc-mul, mul-assoc, mul-le-mul-right}
+use native.Mathlib.Numerals.{add-one}
 use native.Mathlib.Omega.{arith}
 use lib.Dec.{T}
 use lib.ListN.{length, getD, take, drop, length-append, length-drop}
-use lib.Seq.{take-all, take-append-le, drop-append-le, drop-append-add}
+use lib.Seq.{drop-cons, drop-length, take-all, take-append-le, drop-append-le, drop-append-add}
 use lib.Ieee.Fits.{and-i, and-l, and-r}
 use Rattle.rules.specs.Lists.{joined, listed, all, every}
 
@@ -74,6 +75,27 @@ unfolding all
 all-of f [] d h = tt
 all-of f (x ∷ xs) d h = and-i (f x) (all f xs) (h 0 (omega arith)) (all-of f xs d (λ i l. h (suc i) (omega arith)))
 
+-- a loop over a list, with i elements behind it: none is left, or the one at i and those after it
+pub all-none-left : {A : Type 0} (f : A → Bool) (xs : List A) (i : ℕ) → i ≤ length xs → length xs ≤ i → all f (drop i xs) ≡ true
+unfolding all
+all-none-left f xs i h l = rw (le-antisymm h l, drop-length)
+
+pub all-next : {A : Type 0} (f : A → Bool) (xs : List A) (i : ℕ) (d : A) → i < length xs → {b : Bool} → f (getD xs i d) ≡ b
+    → all f (drop i xs) ≡ (b && all f (drop (i + 1) xs))
+unfolding all
+all-next f xs i d h e = rw (add-one, drop-cons xs i d, e)
+
+pub and-assoc : (a b c : Bool) → (a && b && c) ≡ (a && (b && c))
+and-assoc true b c = refl
+and-assoc false b c = refl
+
+-- a list passes where its first k elements and the rest do
+pub all-split : {A : Type 0} (f : A → Bool) (k : ℕ) (xs : List A) → all f xs ≡ (all f (take k xs) && all f (drop k xs))
+unfolding all
+all-split f zero xs = refl
+all-split f (suc k) [] = refl
+all-split f (suc k) (x ∷ xs) = ap (λ (b : Bool). f x && b) (all-split f k xs) ∙ sym (and-assoc (f x) (all f (take k xs)) (all f (drop k xs)))
+
 -- `every` passes exactly where its test passes at each place below n
 pub every-at : (n : ℕ) (f : ℕ → Bool) → T (every n f) → (i : ℕ) → i < n → T (f i)
 unfolding every
@@ -88,3 +110,15 @@ pub every-of : (n : ℕ) (f : ℕ → Bool) → ((i : ℕ) → i < n → T (f i)
 unfolding every
 every-of zero f h = tt
 every-of (suc n) f h = and-i (every n f) (f n) (every-of n f (λ i l. h i (omega arith))) (h n (omega arith))
+
+-- a loop over the places: one where the test fails decides, and one more is tested after those before it
+pub every-fails : (n : ℕ) (f : ℕ → Bool) (i : ℕ) → i < n → f i ≡ false → false ≡ every n f
+every-fails n f i h e = go (every n f) (λ t. subst T e (every-at n f t i h))
+  where
+    go : (b : Bool) → (T b → ⊥) → false ≡ b
+    go true fails = absurd (fails tt)
+    go false fails = refl
+
+pub every-more : (f : ℕ → Bool) (n : ℕ) (b : Bool) → every n f ≡ b → every (n + 1) f ≡ (b && f n)
+unfolding every
+every-more f n b e = rw (add-one, e)

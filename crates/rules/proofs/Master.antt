@@ -1,14 +1,17 @@
--- The master check says yes exactly where no question refuses the set and its equations hold: `yes-iff`. Assumes nothing.
-use mathlib.Core.Path.{_≡_, sym, ap, subst}
+-- The master check says yes exactly where no question refuses the set and its equations hold: `yes-iff`. What an answer says decides it: `says-decides`.
+-- Assumes nothing.
+use mathlib.Core.Path.{_≡_, refl, sym, ap, _∙_, subst}
 use mathlib.Core.Logic.{_↔_}
-use mathlib.Core.Bool.{Bool, _&&_}
+use mathlib.Core.Bool.{Bool, cond, _&&_}
 use Prim.Native.Nat.{ℕ, _-_, _<_}
 use lib.Dec.{T, eqb, eqb→eq, eqb-refl}
 use lib.IntN.{ℤ, pos, negsuc}
 use lib.Ieee.Fits.{and-i, and-l, and-r}
+use Rattle.rules.specs.declared.MasterAnswer.{MasterAnswer}
+use Rattle.rules.specs.declared.MasterAnswer.the-variants.{Yes, No, Refused}
 use Rattle.rules.specs.Lists.{every}
 use Rattle.rules.specs.Tables.{mOf}
-use Rattle.rules.specs.Master.{MasterSet, Equations, masterNumber, same, segments}
+use Rattle.rules.specs.Master.{MasterSet, Equations, MasterSays, masterNumber, masterSays, same, segments}
 use Rattle.rules.specs.Master.{meetsLeft, meetsRight, meetsStart, meetsEnd, meetsJoints, endpointEquations, jointEquations, checkMaster}
 use Rattle.rules.proofs.Lists.{every-at, every-of}
 
@@ -58,7 +61,7 @@ module _ (s : MasterSet) where
   abbrev accepted : Bool
   accepted = eqb (masterNumber s) 0
 
-  to-equations : T (endpointEquations s) → T (jointEquations s) → Equations s
+  pub to-equations : T (endpointEquations s) → T (jointEquations s) → Equations s
   unfolding endpointEquations jointEquations meetsLeft meetsRight meetsStart meetsEnd meetsJoints
   to-equations e j =
       let three = and-l (left && right && start) end e in
@@ -93,3 +96,17 @@ module _ (s : MasterSet) where
         and-i (accepted && endpointEquations s) (jointEquations s)
         (and-i accepted (endpointEquations s) (subst (λ (k : ℕ). T (eqb k 0)) (sym (q .0)) (eqb-refl 0)) (held .0)) (held .1),
   )
+
+-- ---- the answer
+
+answerOf : MasterSays → MasterAnswer
+answerOf says = cond (says .refused) (Refused (says .number)) (cond (says .good) Yes No)
+
+back : (a : MasterAnswer) → answerOf (masterSays a) ≡ a
+unfolding answerOf masterSays
+back Yes = refl
+back No = refl
+back (Refused number) = refl
+
+pub says-decides : (a b : MasterAnswer) → masterSays a ≡ masterSays b → a ≡ b
+says-decides a b e = sym (back a) ∙ ap answerOf e ∙ back b

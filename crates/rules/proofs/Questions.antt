@@ -20,7 +20,7 @@ abbrev pub numbered : List Question → Bool
 numbered [] = true
 numbered (ask b n ∷ rest) = not (eqb n 0) && numbered rest
 
-never : (n : ℕ) (rest : Bool) → T (not (eqb n 0) && rest) → n ≡ 0 → ⊥
+pub never : (n : ℕ) (rest : Bool) → T (not (eqb n 0) && rest) → n ≡ 0 → ⊥
 never n rest h e = T-not (eqb n 0) (and-l (not (eqb n 0)) rest h) (subst (λ (k : ℕ). T (eqb k 0)) (sym e) (eqb-refl 0))
 
 pub said-yes : (qs : List Question) → T (numbered qs) → firstNo qs ≡ 0 → (k : ℕ) → T (answerAt qs k)

@@ -2,7 +2,7 @@
 -- a curve kept in whole numbers, a set its word for all that one check is given, a joint for the point where two segments meet. Assumes nothing.
 use mathlib.Core.Path.{_≡_}
 use Prim.Native.Nat.{ℕ, zero, suc, _+_, _*_, _-_, _^_, _<_}
-use mathlib.Core.Bool.{Bool, true, false, _&&_}
+use mathlib.Core.Bool.{Bool, true, false, not, _&&_}
 use mathlib.Core.List.{List, [], _∷_}
 use lib.IntN.{ℤ, pos, negsuc, natAbs, _+ℤ_, _*ℤ_}
 use lib.ListN.{length, getD}
@@ -21,6 +21,10 @@ pub record MasterSet : Type 0 where
   pub start : List ℤ
   pub end : List ℤ
   pub table : List ℤ
+
+-- the set of one call: order, waypoints, start, end, table
+abbrev pub setOf : ℕ → List ℤ → List ℤ → List ℤ → List ℤ → MasterSet
+setOf order waypoints start end table = record { order = order; waypoints = waypoints; start = start; end = end; table = table }
 
 -- ---- questions before a master check
 
@@ -126,18 +130,20 @@ pub record Equations (s : MasterSet) : Type 0 where
 
 -- ---- the answer
 
--- "Then yes or no; no is not a refusal": what an answer says in document 01's terms. The number is 0 where the check answers yes or no.
+-- "Then yes or no; no is not a refusal": what an answer says in document 01's terms. The number is 0 where the check answers yes or no. No two answers say the
+-- same: `says-decides` of proofs/Master.antt.
 pub record MasterSays : Type 0 where
+  pub refused : Bool
   pub number : ℕ
   pub good : Bool
 
 unfoldable pub masterSays : MasterAnswer → MasterSays
-masterSays Yes = record { number = 0; good = true }
-masterSays No = record { number = 0; good = false }
-masterSays (Refused number) = record { number = number; good = false }
+masterSays Yes = record { refused = false; number = 0; good = true }
+masterSays No = record { refused = false; number = 0; good = false }
+masterSays (Refused number) = record { refused = true; number = number; good = false }
 
 -- refused by the first no of the questions, else yes exactly where all the equations hold
 unfoldable pub checkMaster : MasterSet → MasterSays
 checkMaster s =
     let number = masterNumber s in
-    record { number = number; good = eqb number 0 && endpointEquations s && jointEquations s }
+    record { refused = not (eqb number 0); number = number; good = eqb number 0 && endpointEquations s && jointEquations s }

@@ -1,6 +1,6 @@
 -- Two-point builds of whole numbers are exact. Assumes nothing.
 use mathlib.Core.Path.{_≡_, refl, sym, ap, ap₂, _∙_, subst₂}
-use mathlib.Core.Bool.{Bool, true, false, cond, _&&_}
+use mathlib.Core.Bool.{Bool, true, false, not, cond, _&&_}
 use mathlib.Core.List.{List, [], _∷_, map}
 use Prim.Native.Nat.{ℕ, zero, suc, _+_, _-_, _*_, _<_}
 use native.Mathlib.Nat.{one-mul, zero-mul, not-suc-le-zero}
@@ -64,7 +64,7 @@ unfolding firstNo
 asked true = refl
 asked false = refl
 
-says : (t : Bool) → _≡_ {A = MasterSays} (record { number = cond t 0 4; good = eqb (cond t 0 4) 0 && true && true }) (masterSays (cond t Yes (Refused 4)))
+says : (t : Bool) → _≡_ {A = MasterSays} (record { refused = not (eqb (cond t 0 4) 0); number = cond t 0 4; good = eqb (cond t 0 4) 0 && true && true }) (masterSays (cond t Yes (Refused 4)))
 unfolding masterSays
 says true = refl
 says false = refl
@@ -138,7 +138,7 @@ module _ (order : ℕ) (u v : Float) (left right : List Float) where
 
     check : checkMaster set ≡ masterSays (cond (all within (set .table)) Yes (Refused 4))
     unfolding checkMaster jointEquations meetsJoints every
-    check = ap₂ (λ (n : ℕ) (t : Bool). record { number = n; good = eqb n 0 && t && true }) number (is-true (endpointEquations set) endpoints) ∙ says (all within (set .table))
+    check = ap₂ (λ (n : ℕ) (t : Bool). record { refused = not (eqb n 0); number = n; good = eqb n 0 && t && true }) number (is-true (endpointEquations set) endpoints) ∙ says (all within (set .table))
 
     exact-segment : Exact segment set
     exact-segment = record { whole = whole; endpoints = endpoints; equations = equations; check = check }

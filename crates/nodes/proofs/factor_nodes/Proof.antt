@@ -10,11 +10,10 @@ use Rattle.rules.specs.Lists.{every}
 use Rattle.rules.specs.Solve.{nonzeroPivots, nodeFactors, solvedC}
 use Rattle.block.specs.Kept.{transposed}
 use Rattle.nodes.specs.Kept.{nodeEntries, nodeRows, nodeSolved}
-use Rattle.rules.proofs.Lists.{part-inside}
+use Rattle.rules.proofs.Lists.{part-inside, every-more}
 use Rattle.rules.proofs.Cells.{next-part}
 use Rattle.nodes.proofs.Nodes.{length-entries, length-node-rows, length-solved}
 use Rattle.rules.proofs.Parts.{Parted, none, kept, step, own, later}
-use Rattle.block.proofs.Pivots.{every-more}
 use Rattle.nodes.proofs.factor_nodes.Statement.{statement}
 use Rattle.nodes.proofs.factor_nodes.Tie as tie
 

@@ -1,29 +1,15 @@
 -- The loop's invariant: all the numbers are finite exactly where those from i on are. Assumes nothing.
 use mathlib.Core.Path.{_≡_, refl, _∙_, sym}
-use mathlib.Core.Bool.{Bool, true, _&&_}
-use mathlib.Core.List.{List}
-use Prim.Native.Nat.{ℕ, _+_, _-_, _≤_, _<_}
-use native.Mathlib.Numerals.{add-one}
-use native.Mathlib.Nat.{le-antisymm}
+use Prim.Native.Nat.{_-_, _≤_}
 use native.Mathlib.Omega.{arith}
-use lib.ListN.{length, drop, getD}
-use lib.Seq.{drop-cons, drop-length}
-use lib.Ieee.{Float}
+use lib.ListN.{length, drop}
 use borrow.Author.Needs.{needs}
 use Rattle.rules.specs.Floats.{finite}
 use Rattle.rules.specs.Lists.{all}
+use Rattle.rules.proofs.Lists.{all-none-left, all-next}
 use Rattle.questions.proofs.Tests.{no, yes}
 use Rattle.questions.proofs.all_finite.Statement.{statement}
 use Rattle.questions.proofs.all_finite.Tie as tie
-
--- the numbers from i on: none, or the one at i and those after it
-none-left : (xs : List Float) (i : ℕ) → i ≤ length xs → length xs ≤ i → all finite (drop i xs) ≡ true
-unfolding all
-none-left xs i h l = rw (le-antisymm h l, drop-length)
-
-one-more : (xs : List Float) (i : ℕ) (d : Float) → i < length xs → {b : Bool} → finite (getD xs i d) ≡ b → all finite (drop i xs) ≡ (b && all finite (drop (i + 1) xs))
-unfolding all
-one-more xs i d h e = rw (add-one, drop-cons xs i d, e)
 
 abbrev Inv-loop : tie.InvT-loop
 Inv-loop numbers i₀ i = (i ≤ length numbers) × (all finite numbers ≡ all finite (drop i numbers))
@@ -46,7 +32,7 @@ is-finite-requires c κs = search needs
 returns : tie.Need-returns Inv-loop μ-loop
 returns c =
     let w = c .before .before .before in
-    sym (w .before .loop .inv .1 ∙ one-more _ _ _ (w .loop-test .taken) (no (c .before .is-finite .ensures) (c .if1 .taken)))
+    sym (w .before .loop .inv .1 ∙ all-next finite _ _ _ (w .loop-test .taken) (no (c .before .is-finite .ensures) (c .if1 .taken)))
 
 add-i : tie.Need-add-i Inv-loop μ-loop
 add-i c = omega arith
@@ -58,11 +44,11 @@ loop-again : tie.Need-loop-again Inv-loop μ-loop
 loop-again c =
     let w = c .before .before .before in (
       omega arith,
-      w .before .loop .inv .1 ∙ one-more _ _ _ (w .loop-test .taken) (yes (c .before .is-finite .ensures) (c .if1 .left)),
+      w .before .loop .inv .1 ∙ all-next finite _ _ _ (w .loop-test .taken) (yes (c .before .is-finite .ensures) (c .if1 .left)),
     )
 
 returns-2 : tie.Need-returns-2 Inv-loop μ-loop
-returns-2 c = sym (c .before .loop .inv .1 ∙ none-left _ _ (c .before .loop .inv .0) (c .loop-test .left))
+returns-2 c = sym (c .before .loop .inv .1 ∙ all-none-left finite _ _ (c .before .loop .inv .0) (c .loop-test .left))
 
 pub all-finite-spec : {M : Type 1} → statement M
 all-finite-spec =

@@ -8,7 +8,8 @@ use Rattle.rules.specs.Floats.{+0}
 use Rattle.rules.specs.Lists.{every}
 use Rattle.rules.specs.Solve.{entry, nonzeroPivots}
 use Rattle.rules.proofs.Cells.{cell-inside}
-use Rattle.block.proofs.Pivots.{every-fails, every-more, pivot-test}
+use Rattle.rules.proofs.Lists.{every-fails, every-more}
+use Rattle.block.proofs.Pivots.{pivot-test}
 use Rattle.block.proofs.factor.nonzero_pivots.Statement.{statement}
 use Rattle.block.proofs.factor.nonzero_pivots.Tie as tie
 
