@@ -9,6 +9,7 @@ use Rattle.rules.specs.declared.BoundaryState.{BoundaryState}
 use Rattle.rules.specs.declared.BoundaryState.the-variants.{None, Given}
 use Rattle.rules.specs.declared.SplineConfig.{SplineConfig}
 use Rattle.rules.specs.declared.PathRecord.{PathRecord}
+use Rattle.rules.specs.Master.{MasterSays}
 
 -- A state by its kind: 0 is none, 1 is given, 2 is given per unit of s. Any other kind is a state of the largest usize as rows: question 6 says no to it, as no axes that question 4 lets pass are so many.
 unfoldable pub stateOf : ℕ → ℕ → ℕ → BoundaryState
@@ -44,3 +45,7 @@ pathOf order segments axes lo hi inv mode = record {
   «inv_ds» = inv;
   mode = modeOf mode;
 }
+
+-- 1 is yes and 0 is no, and a refusal has its number.
+unfoldable pub checkNumber : MasterSays → ℕ
+checkNumber says = cond (says .refused) (says .number) (cond (says .good) 1 0)

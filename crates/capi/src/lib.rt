@@ -9,9 +9,11 @@ ghost use lib.Ieee.{binary64};
 ghost use Rattle.rules.specs.Fused.{fused};
 ghost use Rattle.rules.specs.Build.{invDs, buildNumber, bufferAfter};
 ghost use Rattle.rules.specs.Query.{queryNumber, derivativeAfter};
+ghost use Rattle.rules.specs.Master.{setOf, checkMaster};
 ghost use Rattle.questions.specs.Input.{inputOf, queryOf, lengthsOf};
-ghost use Rattle.capi.specs.Export.{stateOf, modeOf, configOf, pathOf};
+ghost use Rattle.capi.specs.Export.{stateOf, modeOf, configOf, pathOf, checkNumber};
 use rules::BoundaryState;
+use rules::MasterAnswer;
 use rules::OutOfRangeMode;
 use rules::PathParam;
 use rules::PathRecord;
@@ -130,4 +132,23 @@ pub extern "C" fn spline_query(
         mode: mode_of(mode),
     };
     query::eval_at(path, coeffs, PathParam(s), level, q, dq, ddq, dddq)
+}
+
+// The check of masters (document 01, module 7), over one axis in whole numbers: 0 is no, 1 is yes, and any other
+// number is a refusal's.
+#[no_mangle]
+pub extern "C" fn spline_check_master(
+    order: usize,
+    waypoints: &[i64],
+    start: &[i64],
+    end: &[i64],
+    table: &[i64],
+) -> u32
+    ensures { λ r. ⌜ r ≡ checkNumber (checkMaster (setOf order (now (waypoints .entry)) (now (start .entry)) (now (end .entry)) (now (table .entry)))) ⌝ }
+{
+    match master::check_master(order, waypoints, start, end, table) {
+        MasterAnswer::Yes => 1,
+        MasterAnswer::No => 0,
+        MasterAnswer::Refused(number) => number,
+    }
 }

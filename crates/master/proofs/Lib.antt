@@ -1,0 +1,5 @@
+pub mod Signed
+pub mod Pass
+pub mod Parts
+pub mod Weighted
+pub mod Meets

@@ -1,0 +1,79 @@
+-- What the functions below `check_master` are held to, which a reader of its contract does not need: the questions but for the table's numbers, and the
+-- equations in the order in which one pass over the table meets them. proofs/Pass.antt: they are those of crates/rules/specs/Master.antt. Assumes nothing.
+use mathlib.Core.Path.{_≡_}
+use mathlib.Core.Bool.{Bool, not, cond, _&&_}
+use mathlib.Core.List.{List, [], _∷_, _++_}
+use Prim.Native.Nat.{ℕ, suc, _+_, _-_, _*_, _<_, _≤_}
+use lib.Dec.{T, eqb}
+use lib.IntN.{ℤ, pos, _*ℤ_}
+use lib.ListN.{length, take}
+use Rattle.rules.specs.Lists.{all, every}
+use Rattle.rules.specs.Questions.{Question, ask}
+use Rattle.rules.specs.Master.{MasterSet, MasterSays, masterQuestions, within, same, at, coefficient, binomial, sumℤ, atEnd, meetsStart}
+
+-- ---- the questions
+
+-- the last question is asked of all but the table
+unfoldable pub questionsBefore : MasterSet → List Question
+questionsBefore s = take 6 (masterQuestions s) ++ (ask (all within (s .waypoints) && all within (s .start) && all within (s .end)) 4 ∷ [])
+
+-- ---- one segment
+
+-- the sums of segment i can be taken: it is in the table, and its coefficients are within ±2^40
+pub record Summable (m : ℕ) (table : List ℤ) (i : ℕ) : Type 0 where
+  pub most-m : m ≤ 3
+  pub most-i : i ≤ 255
+  pub inside : i * (2 * m + 2) + (2 * m + 2) ≤ length table
+  pub coefficients : (k : ℕ) → k < 2 * m + 2 → T (within (coefficient m table i k))
+
+-- c holds the coefficients of segment i, and zeros after them
+pub record Padded (m : ℕ) (table : List ℤ) (i : ℕ) (c : List ℤ) : Type 0 where
+  pub here : (k : ℕ) → k < 2 * m + 2 → at c k ≡ coefficient m table i k
+  pub rest : (k : ℕ) → 2 * m + 2 ≤ k → at c k ≡ pos 0
+
+-- the first n summands of "the sum of C(k,r) × coefficient k"
+unfoldable pub weighted : List ℤ → ℕ → ℕ → ℤ
+weighted c r n = sumℤ n (λ k. pos (binomial k r) *ℤ at c k)
+
+-- segment i of so many waypoints, where the end state and the table are as long as they have to be
+pub record SegmentShaped (m : ℕ) (w end table : List ℤ) (i : ℕ) : Type 0 where
+  pub summable : Summable m table i
+  pub between : suc i < length w
+  pub end-is : length end ≡ m
+  pub table-is : length table ≡ (length w - 1) * (2 * m + 2)
+
+-- of the sums r = 0, 1, .. at a segment's end, those from r = 1 on, so many, are the numbers of a list from a place on
+unfoldable pub meetsAt : List ℤ → List ℤ → ℕ → ℕ → Bool
+meetsAt sums numbers from count = every count (λ r. same (at sums (suc r)) (at numbers (from + r)))
+
+-- segment i starts and ends at its waypoints, and ends as the next segment starts, the last one as the end state says
+unfoldable pub segmentMeets : ℕ → List ℤ → List ℤ → List ℤ → ℕ → Bool
+segmentMeets m w end table i =
+    same (coefficient m table i 0) (at w i)
+    && same (atEnd m table i 0) (at w (suc i))
+    && cond (eqb (i + 2) (length w))
+    (every m (λ r. same (atEnd m table i (suc r)) (at end r)))
+    (every (2 * m) (λ r. same (atEnd m table i (suc r)) (coefficient m table (suc i) (suc r))))
+
+-- ---- all segments
+
+-- what the questions have settled of the lengths
+pub record Shaped (m : ℕ) (w start end table : List ℤ) : Type 0 where
+  pub least-m : 1 ≤ m
+  pub most-m : m ≤ 3
+  pub least : 2 ≤ length w
+  pub most : length w ≤ 257
+  pub start-is : length start ≡ m
+  pub end-is : length end ≡ m
+  pub table-is : length table ≡ (length w - 1) * (2 * m + 2)
+
+-- the start state is met, and so are the equations of the first n segments
+unfoldable pub meetsUpTo : ℕ → List ℤ → List ℤ → List ℤ → List ℤ → ℕ → Bool
+meetsUpTo m w start end table n =
+    meetsStart m (length w - 1) table start && every n (segmentMeets m w end table)
+
+-- the pass's answer
+unfoldable pub passSays : ℕ → List ℤ → List ℤ → List ℤ → List ℤ → MasterSays
+passSays m w start end table =
+    let fit = all within table in
+    record { refused = not fit; number = cond fit 0 4; good = fit && meetsUpTo m w start end table (length w - 1) }

@@ -1,0 +1,83 @@
+// Document 01's questions before a master check. The last one, whether every number is within ±2^40, is asked
+// here of the waypoints and of both states; of the table it is asked segment by segment, in the pass over it.
+ghost use mathlib.Core.Path.{_≡_};
+ghost use mathlib.Core.Bool.{_&&_};
+ghost use Rattle.rules.specs.Lists.{all};
+ghost use Rattle.rules.specs.Questions.{firstNo};
+ghost use Rattle.rules.specs.Master.{setOf, within};
+ghost use Rattle.master.specs.Pass.{questionsBefore};
+use questions::valid_order;
+
+// Within ±2^40.
+fn is_within(z: i64) -> bool
+    ensures { λ r. ⌜ r ≡ within z ⌝ }
+{
+    if z < -1099511627776 {
+        return false;
+    }
+    z <= 1099511627776
+}
+
+pub fn all_within(numbers: &[i64]) -> bool
+    ensures { λ r. ⌜ r ≡ all within (now (numbers .entry)) ⌝ }
+{
+    let mut i = 0;
+    while i < numbers.len() {
+        if !is_within(numbers[i]) {
+            return false;
+        }
+        i += 1;
+    }
+    true
+}
+
+// The last question, of all but the table.
+fn given_within(waypoints: &[i64], start: &[i64], end: &[i64]) -> bool
+    ensures { λ r. ⌜ r ≡ (all within (now (waypoints .entry)) && all within (now (start .entry)) && all within (now (end .entry))) ⌝ }
+{
+    if !all_within(waypoints) {
+        return false;
+    }
+    if !all_within(start) {
+        return false;
+    }
+    all_within(end)
+}
+
+// The number of the first no, and 0 where all say yes, whatever the table's numbers are.
+pub fn master_questions(
+    order: usize,
+    waypoints: &[i64],
+    start: &[i64],
+    end: &[i64],
+    table: &[i64],
+) -> u32
+    ensures { λ r. ⌜ r ≡ firstNo (questionsBefore (setOf order (now (waypoints .entry)) (now (start .entry)) (now (end .entry)) (now (table .entry)))) ⌝ }
+{
+    if !valid_order(order) {
+        return 302;
+    }
+    let points = waypoints.len();
+    if points < 2 {
+        return 304;
+    }
+    if 257 < points {
+        return 2; // too many points
+    }
+    let m = (order - 1) / 2;
+    if start.len() != m {
+        return 303; // the start state
+    }
+    if end.len() != m {
+        return 303; // the end state
+    }
+    let fits = table.len() == (points - 1) * (order + 1);
+    let in_range = given_within(waypoints, start, end);
+    if !fits {
+        return 2; // the table
+    }
+    if !in_range {
+        return 4; // a number
+    }
+    0 // every question says yes
+}

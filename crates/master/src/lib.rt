@@ -1,0 +1,62 @@
+// The check of masters, module 7 of document 01: one axis in whole numbers. It asks its questions, then
+// goes over the table once, segment by segment. What it is held to stands in crates/rules/specs/Master.antt.
+ghost use mathlib.Core.Path.{_≡_};
+ghost use Rattle.rules.specs.Master.{setOf, checkMaster, masterSays};
+ghost use Rattle.master.specs.Pass.{Shaped, passSays};
+
+mod asked;
+mod segment;
+mod sums;
+
+use crate::asked::all_within;
+use crate::asked::master_questions;
+use crate::segment::meets_start;
+use crate::segment::segment_meets;
+use rules::MasterAnswer;
+
+// The pass over the table. A number out of range is a refusal wherever it stands, so a segment that does not
+// meet its equations does not end the pass.
+fn check_segments(
+    m: usize,
+    waypoints: &[i64],
+    start: &[i64],
+    end: &[i64],
+    table: &[i64],
+) -> MasterAnswer
+    requires { ⌜ Shaped m (now waypoints) (now start) (now end) (now table) ⌝ }
+    ensures { λ r. ⌜ masterSays r ≡ passSays m (now (waypoints .entry)) (now (start .entry)) (now (end .entry)) (now (table .entry)) ⌝ }
+{
+    let cells = 2 * m + 2;
+    let segments = waypoints.len() - 1;
+    let mut good = meets_start(m, start, table);
+    let mut i = 0;
+    while i < segments {
+        let from = i * cells;
+        if !all_within(&table[from..from + cells]) {
+            return MasterAnswer::Refused(4);
+        }
+        good = segment_meets(good, m, waypoints, end, table, i);
+        i += 1;
+    }
+    if good {
+        return MasterAnswer::Yes;
+    }
+    MasterAnswer::No
+}
+
+// The check. It reads what it is given and writes nothing.
+pub fn check_master(
+    order: usize,
+    waypoints: &[i64],
+    start: &[i64],
+    end: &[i64],
+    table: &[i64],
+) -> MasterAnswer
+    ensures { λ r. ⌜ masterSays r ≡ checkMaster (setOf order (now (waypoints .entry)) (now (start .entry)) (now (end .entry)) (now (table .entry))) ⌝ }
+{
+    let number = master_questions(order, waypoints, start, end, table);
+    if number != 0 {
+        return MasterAnswer::Refused(number);
+    }
+    check_segments((order - 1) / 2, waypoints, start, end, table)
+}
