@@ -1,0 +1,5 @@
+pub mod Energy
+pub mod Zero
+pub mod Good
+pub mod Difference
+pub mod Unique

@@ -1,0 +1,27 @@
+-- Demand 3: "For every two coefficient tables of the same order, be it 3, 5 or 7, and whatever their point counts: if the master check says yes to each with its
+-- own waypoints, start state and end state, the two tables are equal exactly when their waypoints, their start states and their end states are all equal." And
+-- document 01: "Two tables, two waypoint lists or two states are equal when they have the same length and the same number at every place", which is what `≡` of
+-- two lists is. Proved by `masters-are-unique` and `two-calls-that-said-yes` of proofs/Unique.antt. Assumes nothing.
+use mathlib.Core.Path.{_≡_}
+use mathlib.Core.Logic.{_↔_}
+use mathlib.Core.List.{List}
+use Prim.Native.Nat.{ℕ}
+use lib.Dec.{T}
+use lib.IntN.{ℤ}
+use Rattle.rules.specs.declared.MasterAnswer.{MasterAnswer}
+use Rattle.rules.specs.declared.MasterAnswer.the-variants.{Yes}
+use Rattle.rules.specs.Master.{MasterSet, setOf, checkMaster, masterSays}
+
+-- Demand 3, of any two sets. The check says yes to none whose order is not 3, 5 or 7.
+unfoldable pub MastersAreUnique : Type 0
+MastersAreUnique =
+    (s t : MasterSet) → s .order ≡ t .order → T (checkMaster s .good) → T (checkMaster t .good)
+    → (s .table ≡ t .table) ↔ ((s .waypoints ≡ t .waypoints) × (s .start ≡ t .start) × (s .end ≡ t .end))
+
+-- The same of any two calls of the same order that answered Yes: what the contract of `check_master` promises of an answer is `masterSays answer ≡ checkMaster set`.
+unfoldable pub TwoCallsThatSaidYes : Type 0
+TwoCallsThatSaidYes =
+    (order : ℕ) (waypoints waypoints′ start start′ end end′ table table′ : List ℤ) (answer answer′ : MasterAnswer)
+    → masterSays answer ≡ checkMaster (setOf order waypoints start end table) → masterSays answer′ ≡ checkMaster (setOf order waypoints′ start′ end′ table′)
+    → answer ≡ Yes → answer′ ≡ Yes
+    → (table ≡ table′) ↔ ((waypoints ≡ waypoints′) × (start ≡ start′) × (end ≡ end′))
