@@ -19,6 +19,7 @@ use std::collections::BTreeMap;
 use std::hint::black_box;
 use std::time::Instant;
 
+mod asked;
 mod input;
 mod random;
 

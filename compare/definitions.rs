@@ -11,11 +11,16 @@
 use input::{diag, path, range, Build, State};
 use query::Query;
 use random::Random;
+use set::{Set, LIMIT};
 use spline::coefficients;
 
+mod asked;
 mod input;
 mod query;
 mod random;
+// (A trial's answer is known by how its set was made.)
+#[allow(dead_code)]
+mod set;
 
 // The text of src/path/spline.rs, unchanged, with one function after it that hands out the coefficients.
 #[allow(dead_code)]
@@ -190,27 +195,11 @@ fn fused_steps(random: &mut Random, trial: usize) -> String {
 
 // ---- master checks
 
-/// Coefficient r of a segment taken about its end.
-fn at_end(segment: &[i64], r: usize) -> i64 {
-    let binomial = |k: usize| (0..r).fold(1, |c, i| c * (k as i64 - i as i64) / (i as i64 + 1));
-    (r..segment.len()).map(|k| binomial(k) * segment[k]).sum()
-}
-
-/// A good set by how it is made: each segment goes on from the last one's end in all coefficients but
-/// the highest, and points and states are read off. It stays good, or one thing in it is changed.
+/// A good set by how it is made. It stays good, or one thing in it is changed.
 fn master_check(random: &mut Random, trial: usize) -> String {
-    let m = 1 + random.below(3) as usize;
-    let mut order = 2 * m + 1;
-    let mut table: Vec<Vec<i64>> = vec![(0..2 * m + 2).map(|_| random.below(19) as i64 - 9).collect()];
-    for _ in 0..random.below(4) {
-        let last = table.last().unwrap();
-        let highest = random.below(19) as i64 - 9;
-        table.push((0..=2 * m).map(|r| at_end(last, r)).chain([highest]).collect());
-    }
-    let last = table.last().unwrap();
-    let waypoints: Vec<i64> = table.iter().map(|segment| segment[0]).chain([at_end(last, 0)]).collect();
-    let mut lists = [waypoints, table[0][1..=m].to_vec(), (1..=m).map(|r| at_end(last, r)).collect(), table.concat()];
-    let limit = 1i64 << 40;
+    let (order, segments) = (random.pick(&[3, 5, 7]), 1 + random.below(4) as usize);
+    let mut set = Set::continued(random, order, segments, 9);
+    let mut lists = set.lists_mut();
     let which = random.below(4) as usize;
     let place = random.below(lists[which].len() as u64) as usize;
     let cell = &mut lists[which][place];
@@ -218,9 +207,9 @@ fn master_check(random: &mut Random, trial: usize) -> String {
     match trial % 16 {
         0..=3 => good = true,
         4..=6 => *cell += [-1, 1, 7][trial % 16 - 4],
-        7 | 8 => *cell = [limit, -limit][trial % 16 - 7],
-        9 | 10 => (*cell, number) = ([limit + 1, -limit - 1][trial % 16 - 9], 4),
-        11 => (order, number) = (order + 1, 302),
+        7 | 8 => *cell = [LIMIT, -LIMIT][trial % 16 - 7],
+        9 | 10 => (*cell, number) = ([LIMIT + 1, -LIMIT - 1][trial % 16 - 9], 4),
+        11 => (set.order, number) = (order + 1, 302),
         12 => {
             lists[0].truncate(trial / 16 % 2);
             number = 304;
@@ -238,7 +227,8 @@ fn master_check(random: &mut Random, trial: usize) -> String {
             number = 2;
         }
     }
-    let [waypoints, start, end, table] = lists.map(|l| list(&l, whole));
+    let [waypoints, start, end, table] = set.lists().map(|l| list(l, whole));
+    let order = set.order;
     let set = format!("record {{ order = {order}; waypoints = {waypoints}; start = {start}; end = {end}; table = {table} }}");
     format!("says ({set}) {number} {good}")
 }

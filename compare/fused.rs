@@ -22,10 +22,6 @@ extern "C" {
 type Triple = (f64, f64, f64);
 
 impl Random {
-    fn between(&mut self, low: i64, high: i64) -> i64 {
-        assert!(low <= high);
-        low + self.below((high - low + 1) as u64) as i64
-    }
     fn sign(&mut self) -> f64 {
         if self.below(2) == 0 {
             1.0

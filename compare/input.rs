@@ -2,6 +2,7 @@
 //! Rust text of copp. A driver that uses it has the text as the module `spline` at its root, with `diag`
 //! and `path` of this file beside it, since the text looks for them there.
 
+use crate::asked::{first_no, is_order};
 use crate::random::Random;
 use crate::spline::{SplineConfig, SplinePath};
 use diag::PathError;
@@ -28,12 +29,6 @@ pub mod path {
 }
 
 impl Random {
-    pub fn one_in(&mut self, n: u64) -> bool {
-        self.below(n) == 0
-    }
-    pub fn pick<T: Copy>(&mut self, from: &[T]) -> T {
-        from[self.below(from.len() as u64) as usize]
-    }
     /// From 0 up to 1.
     pub fn unit(&mut self) -> f64 {
         (self.bits() >> 11) as f64 / (1u64 << 53) as f64
@@ -64,15 +59,6 @@ impl Random {
 }
 
 pub const NOT_FINITE: [f64; 3] = [f64::NAN, f64::INFINITY, f64::NEG_INFINITY];
-
-/// Document 01's "the first no gives its number", and 0 where there is none.
-pub fn first_no(questions: &[(bool, u32)]) -> u32 {
-    questions.iter().find(|question| !question.0).map_or(0, |question| question.1)
-}
-
-pub fn is_order(order: usize) -> bool {
-    [3, 5, 7].contains(&order)
-}
 
 /// Question 8 of document 01, and the quotient that it asks about.
 pub fn range(segments: usize, s_min: f64, s_max: f64) -> Option<f64> {

@@ -18,6 +18,7 @@ use std::collections::BTreeMap;
 use std::hint::black_box;
 use std::time::Instant;
 
+mod asked;
 // (Nothing here damages a build.)
 #[allow(dead_code)]
 mod input;

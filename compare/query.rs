@@ -1,6 +1,7 @@
 //! A query's input, refused by document 01's questions as plain tests.
 
-use crate::input::{first_no, is_order, range};
+use crate::asked::{first_no, is_order};
+use crate::input::range;
 
 /// What a query is given, but for the numbers of its table and buffers.
 #[derive(Clone)]

@@ -1,3 +1,6 @@
+// No driver uses all of it.
+#![allow(dead_code)]
+
 /// xorshift64*: the same numbers for the same seed, which is not zero.
 pub struct Random(pub u64);
 
@@ -10,5 +13,15 @@ impl Random {
     }
     pub fn below(&mut self, n: u64) -> u64 {
         (self.bits() >> 11) % n
+    }
+    pub fn between(&mut self, low: i64, high: i64) -> i64 {
+        assert!(low <= high);
+        low + self.below((high - low + 1) as u64) as i64
+    }
+    pub fn one_in(&mut self, n: u64) -> bool {
+        self.below(n) == 0
+    }
+    pub fn pick<T: Copy>(&mut self, from: &[T]) -> T {
+        from[self.below(from.len() as u64) as usize]
     }
 }
