@@ -1,5 +1,5 @@
 pub mod Signed
 pub mod Pass
 pub mod Parts
-pub mod Weighted
+pub mod Horner
 pub mod Meets

@@ -69,9 +69,9 @@ unfolding meetsStart meetsAt
 start-as-made m segments table start = every-alike m _ _ (λ r h. ap₂ same (ap (at table) (omega arith)) (ap (at start) (omega arith)))
 
 -- of a segment, whose sums the code has in a list: it compares them with the end state or with what stands in the table
-module _ (m : ℕ) (w end table : List ℤ) (i : ℕ) (sums : List ℤ) (few : m ≤ 3) (are : (r : ℕ) → r < 7 → at sums r ≡ atEnd m table i r) where
+module _ (m : ℕ) (w end table : List ℤ) (i : ℕ) (sums : List ℤ) (are : (r : ℕ) → r < 2 * m + 1 → at sums r ≡ atEnd m table i r) where
   -- the sums from r = 1 on against f 0, f 1, .., which stand in a list from a place on
-  at-end : (count : ℕ) → count ≤ 6 → (numbers : List ℤ) (from : ℕ) (f : ℕ → ℤ) → ((r : ℕ) → f r ≡ at numbers (from + r))
+  at-end : (count : ℕ) → count ≤ 2 * m → (numbers : List ℤ) (from : ℕ) (f : ℕ → ℤ) → ((r : ℕ) → f r ≡ at numbers (from + r))
       → every count (λ r. same (atEnd m table i (suc r)) (f r)) ≡ meetsAt sums numbers from count
   unfolding meetsAt
   at-end count l numbers from f e = every-alike count _ _ (λ r h. ap₂ same (sym (are (suc r) (omega arith))) (e r))

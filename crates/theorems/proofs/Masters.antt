@@ -118,9 +118,10 @@ module _ (b : BuildInput) (cells axis : ℕ) (accepted : buildNumber b cells ≡
   unfolding TwoPointsAreExact
   exact = two-points-are-exact b cells axis accepted w inside
 
-  good : T (checkMaster (axisSet b axis) .good)
+  -- the check says yes to an axis
+  pub two-points-checked : T (checkMaster (axisSet b axis) .good)
   unfolding masterSays
-  good =
+  two-points-checked =
       subst (λ (says : MasterSays). T (says .good))
       (sym (exact .check ∙ ap (λ (t : Bool). masterSays (cond t Yes (Refused 4))) (is-true (all within (axisSet b axis .table)) small))) tt
 
@@ -142,7 +143,7 @@ module _ (b : BuildInput) (cells axis : ℕ) (accepted : buildNumber b cells ≡
 
   evaluates : MeetsItsMaster (axisSet b axis) 0 (axisPart b axis)
   unfolding MastersEvaluateExactly
-  evaluates = masters-evaluate-exactly (axisSet b axis) 0 (axisPart b axis) good one-segment part-segment
+  evaluates = masters-evaluate-exactly (axisSet b axis) 0 (axisPart b axis) two-points-checked one-segment part-segment
 
 pub two-points-evaluate-exactly : TwoPointsEvaluateExactly
 unfolding TwoPointsEvaluateExactly

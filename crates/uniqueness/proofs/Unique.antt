@@ -14,7 +14,9 @@ use Rattle.rules.specs.declared.MasterAnswer.{MasterAnswer}
 use Rattle.rules.specs.declared.MasterAnswer.the-variants.{Yes}
 use Rattle.rules.specs.Tables.{mOf}
 use Rattle.rules.specs.Master.{MasterSet, MasterSays, setOf, at, coefficient, atEnd, checkMaster, masterSays}
-use Rattle.uniqueness.specs.Unique.{MastersAreUnique, TwoCallsThatSaidYes}
+use Rattle.theorems.specs.Exact.{axisSet}
+use Rattle.theorems.proofs.Masters.{two-points-checked}
+use Rattle.uniqueness.specs.Unique.{MastersAreUnique, TwoCallsThatSaidYes, TwoPointMastersAreBuilt}
 use Rattle.uniqueness.proofs.Good.{Good, good}
 use Rattle.uniqueness.proofs.Difference.{tables-equal}
 
@@ -79,3 +81,9 @@ pub two-calls-that-said-yes : TwoCallsThatSaidYes
 unfolding TwoCallsThatSaidYes
 two-calls-that-said-yes order w w′ start start′ end end′ table table′ answer answer′ e e′ y y′ =
     unique order w w′ start start′ end end′ table table′ (good _ (answered-yes _ answer e y)) (good _ (answered-yes _ answer′ e′ y′))
+
+-- ---- of a build
+
+pub two-point-masters-are-built : TwoPointMastersAreBuilt
+unfolding TwoPointMastersAreBuilt MastersAreUnique axisSet
+two-point-masters-are-built b cells axis accepted w inside small t e y = masters-are-unique (axisSet b axis) t e (two-points-checked b cells axis accepted w inside small) y

@@ -1,16 +1,19 @@
 -- Demand 3: "For every two coefficient tables of the same order, be it 3, 5 or 7, and whatever their point counts: if the master check says yes to each with its
 -- own waypoints, start state and end state, the two tables are equal exactly when their waypoints, their start states and their end states are all equal." And
 -- document 01: "Two tables, two waypoint lists or two states are equal when they have the same length and the same number at every place", which is what `≡` of
--- two lists is. Proved by `masters-are-unique` and `two-calls-that-said-yes` of proofs/Unique.antt. Assumes nothing.
+-- two lists is. Proved by `masters-are-unique`, `two-calls-that-said-yes` and `two-point-masters-are-built` of proofs/Unique.antt. Assumes nothing.
 use mathlib.Core.Path.{_≡_}
 use mathlib.Core.Logic.{_↔_}
 use mathlib.Core.List.{List}
-use Prim.Native.Nat.{ℕ}
+use Prim.Native.Nat.{ℕ, _<_}
 use lib.Dec.{T}
 use lib.IntN.{ℤ}
 use Rattle.rules.specs.declared.MasterAnswer.{MasterAnswer}
 use Rattle.rules.specs.declared.MasterAnswer.the-variants.{Yes}
-use Rattle.rules.specs.Master.{MasterSet, setOf, checkMaster, masterSays}
+use Rattle.rules.specs.Lists.{all}
+use Rattle.rules.specs.Build.{BuildInput, buildNumber}
+use Rattle.rules.specs.Master.{MasterSet, setOf, within, checkMaster, masterSays}
+use Rattle.theorems.specs.Exact.{WholeTwoPoints, axisSet}
 
 -- Demand 3, of any two sets. The check says yes to none whose order is not 3, 5 or 7.
 unfoldable pub MastersAreUnique : Type 0
@@ -25,3 +28,11 @@ TwoCallsThatSaidYes =
     → masterSays answer ≡ checkMaster (setOf order waypoints start end table) → masterSays answer′ ≡ checkMaster (setOf order waypoints′ start′ end′ table′)
     → answer ≡ Yes → answer′ ≡ Yes
     → (table ≡ table′) ↔ ((waypoints ≡ waypoints′) × (start ≡ start′) × (end ≡ end′))
+
+-- The link to the build. By `TwoPointsAreExact` (crates/theorems/specs/Exact.antt) the check says yes to what an accepted two-point build of whole numbers wrote for
+-- an axis, where that is within ±2^40. So of the masters with that axis's order, points and states this one is all there is.
+unfoldable pub TwoPointMastersAreBuilt : Type 0
+TwoPointMastersAreBuilt =
+    (b : BuildInput) (cells axis : ℕ) → buildNumber b cells ≡ 0 → WholeTwoPoints b → axis < b .axes → T (all within (axisSet b axis .table))
+    → (t : MasterSet) → b .config .order ≡ t .order → T (checkMaster t .good)
+    → (axisSet b axis .table ≡ t .table) ↔ ((axisSet b axis .waypoints ≡ t .waypoints) × (axisSet b axis .start ≡ t .start) × (axisSet b axis .end ≡ t .end))

@@ -3,18 +3,8 @@
 ghost use mathlib.Core.Path.{_≡_};
 ghost use mathlib.Core.Bool.{true, _&&_};
 ghost use mathlib.Core.Logic.{_↔_};
-ghost use Rattle.rules.specs.Master.{setOf, checkMaster, masterSays};
-use rules::MasterAnswer;
-
-fn is_yes(answer: MasterAnswer) -> bool
-    ensures { λ r. ⌜ r ≡ masterSays answer .good ⌝ }
-{
-    match answer {
-        MasterAnswer::Yes => true,
-        MasterAnswer::No => false,
-        MasterAnswer::Refused(_) => false,
-    }
-}
+ghost use Rattle.rules.specs.Master.{setOf, checkMaster};
+use master::is_yes;
 
 // Does the check say yes to two sets of one order? Where it does, the tables are equal exactly when the waypoints, the
 // start states and the end states are.

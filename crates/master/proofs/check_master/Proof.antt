@@ -1,6 +1,5 @@
 -- A no of the first questions is the answer, and else the pass over the table answers. Assumes nothing.
 use mathlib.Core.Path.{_≡_, sym, _∙_}
-use Prim.Native.Nat.{_≤_}
 use native.Mathlib.Omega.{arith}
 use borrow.Author.Needs.{needs}
 use Rattle.rules.specs.Master.{MasterSet, setOf}

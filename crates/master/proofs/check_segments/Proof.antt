@@ -1,10 +1,10 @@
 -- The loop's invariant: of the segments behind it all numbers are within ±2^40, and `good` says whether their equations hold, the start state's with them.
 -- Assumes nothing.
-use mathlib.Core.Path.{_≡_, refl, sym, ap, ap₂, _∙_}
+use mathlib.Core.Path.{_≡_, refl, sym, ap, _∙_}
 use mathlib.Core.Bool.{Bool, true, false, _&&_}
 use mathlib.Core.List.{List}
-use Prim.Native.Nat.{ℕ, _+_, _-_, _*_, _<_, _≤_}
-use native.Mathlib.Nat.{le-antisymm, le-trans, mul-le-mul, zero-mul}
+use Prim.Native.Nat.{ℕ, _+_, _-_, _*_, _≤_}
+use native.Mathlib.Nat.{le-antisymm, zero-mul}
 use native.Mathlib.Omega.{arith}
 use lib.IntN.{ℤ}
 use lib.ListN.{length, drop}
@@ -12,10 +12,10 @@ use borrow.Author.Needs.{needs}
 use Rattle.rules.specs.declared.MasterAnswer.the-variants.{Refused}
 use Rattle.rules.specs.Lists.{all, every}
 use Rattle.rules.specs.Master.{within, meetsStart, masterSays}
-use Rattle.rules.proofs.Lists.{and-assoc, every-more, part-inside}
-use Rattle.questions.proofs.Tests.{no, yes}
+use Rattle.rules.proofs.Lists.{and-assoc, every-more}
 use Rattle.master.specs.Pass.{segmentMeets, meetsUpTo, passSays}
 use Rattle.master.proofs.Parts.{left-next, inside, none-left, segment-shaped}
+use Rattle.master.proofs.Pass.{segment-out, was-out, was-within, was-good}
 use Rattle.master.proofs.check_segments.Statement.{statement}
 use Rattle.master.proofs.check_segments.Tie as tie
 
@@ -25,10 +25,10 @@ record Inv (m : ℕ) (w start end table : List ℤ) (good : Bool) (i : ℕ) : Ty
   left : all within table ≡ all within (drop (i * (2 * m + 2)) table)
 
 abbrev Inv-loop : tie.InvT-loop
-Inv-loop m waypoints start end table cells segments good₀ i₀ good i = Inv m waypoints start end table good i
+Inv-loop m waypoints start end table segments good₀ i₀ good i = Inv m waypoints start end table good i
 
 abbrev μ-loop : tie.MeasureT-loop
-μ-loop m waypoints start end table cells segments good₀ i₀ good i = length waypoints - 1 - i
+μ-loop m waypoints start end table segments good₀ i₀ good i = length waypoints - 1 - i
 
 -- no segment yet, and one more
 no-segment : (m : ℕ) (w start end table : List ℤ) → meetsUpTo m w start end table 0 ≡ meetsStart m (length w - 1) table start
@@ -62,19 +62,6 @@ answered c =
     let n : length (s .args .waypoints .now) - 1 ≡ l .i = le-antisymm (c .loop-test .left) (l .inv .most) in
     rw (l .inv .left ∙ none-left (s .pre) (l .inv .most) (c .loop-test .left), n, ← l .inv .met)
 
--- where a segment ends in the table
-place : (c : tie.In-loop Inv-loop μ-loop) → let k = 2 * c .before .before .before .args .m + 2 in c .before .loop .i * k + k ≤ 256 * 8
-place c =
-    let h = c .before .before .before .pre in
-    le-trans (part-inside (2 * c .before .before .before .args .m + 2) (c .loop-test .taken))
-    (mul-le-mul {n₂ = 256} {m₂ = 8} (let k = h .most in omega arith) (let k = h .most-m in omega arith))
-
-mul-cells : tie.Need-mul-cells Inv-loop μ-loop
-mul-cells c = let h = c .pre .most-m in record { fits = omega arith }
-
-add-cells : tie.Need-add-cells Inv-loop μ-loop
-add-cells c = let h = c .pre .most-m in record { fits = omega arith }
-
 sub-segments : tie.Need-sub-segments Inv-loop μ-loop
 sub-segments c = let h = c .pre .least in omega arith
 
@@ -86,37 +73,28 @@ loop-holds c =
     let w = c .before .args .waypoints .now in
     record { most = omega arith; met = c .meets-start .ensures (length w - 1) ∙ sym (no-segment _ w _ _ _); left = rw zero-mul }
 
-mul-from : tie.Need-mul-from Inv-loop μ-loop
-mul-from c = record { fits = omega (arith, place c) }
+check-segment-requires : tie.Need-check-segment-requires Inv-loop μ-loop
+check-segment-requires c κs = segment-shaped (c .before .before .before .pre) (c .loop-test .taken)
 
-add-all-within : tie.Need-add-all-within Inv-loop μ-loop
-add-all-within c = record { fits = omega (arith, place c) }
+is-refused-requires : tie.Need-is-refused-requires Inv-loop μ-loop
+is-refused-requires c κs = search needs
 
-mul-all-within : tie.Need-mul-all-within Inv-loop μ-loop
-mul-all-within c = record { fits = omega (arith, place c) }
-
-sub-all-within : tie.Need-sub-all-within Inv-loop μ-loop
-sub-all-within c = search needs
-
-part-all-within-start : tie.Need-part-all-within-start Inv-loop μ-loop
-part-all-within-start c = search needs
-
-part-all-within-end : tie.Need-part-all-within-end Inv-loop μ-loop
-part-all-within-end c = omega (arith, inside (c .before .before .before .pre) (c .loop-test .taken))
-
-all-within-requires : tie.Need-all-within-requires Inv-loop μ-loop
-all-within-requires c κs = search needs
+-- where a segment's answer is not a refusal
+went-on : (c : tie.Else1 Inv-loop μ-loop) → masterSays (c .before .before .check-segment .result) .refused ≡ false
+went-on c = sym (c .before .is-refused .ensures) ∙ c .if1 .left
 
 returns : tie.Need-returns Inv-loop μ-loop
 returns c =
-    let d = c .before .before .before in
+    let said = c .before .before in
+    let d = said .before in
     let s = d .before .before .before in
-    sym (out-of-range _ _ _ _ _ (d .before .loop .inv .left ∙ left-next (s .args .m) (s .args .table .now) _ (no (c .before .all-within .ensures) (c .if1 .taken))))
+    let out = was-out _ _ _ _ _ _ (said .check-segment .ensures) (sym (c .before .is-refused .ensures) ∙ c .if1 .taken) in
+    said .check-segment .ensures
+    ∙ segment-out _ _ _ _ _ _ out
+    ∙ sym (out-of-range _ _ _ _ _ (d .before .loop .inv .left ∙ left-next (s .args .m) (s .args .table .now) _ out))
 
-segment-meets-requires : tie.Need-segment-meets-requires Inv-loop μ-loop
-segment-meets-requires c κs =
-    let d = c .before .before .before in
-    segment-shaped (d .before .before .before .pre) (d .loop-test .taken) (yes (c .before .all-within .ensures) (c .if1 .left))
+is-yes-requires : tie.Need-is-yes-requires Inv-loop μ-loop
+is-yes-requires c κs = search needs
 
 add-i : tie.Need-add-i Inv-loop μ-loop
 add-i c = let h = c .before .before .before .before .loop-test .taken in omega arith
@@ -126,13 +104,17 @@ loop-less c = let h = c .before .before .before .before .loop-test .taken in ome
 
 loop-again : tie.Need-loop-again Inv-loop μ-loop
 loop-again c =
-    let e = c .before in
-    let d = e .before .before .before in
+    let said = c .before .before .before in
+    let d = said .before in
     let s = d .before .before .before in
+    let on = went-on (c .before) in
     record {
       most = let h = d .loop-test .taken in omega arith;
-      met = c .segment-meets .ensures ∙ one-segment-more (s .args .m) (s .args .waypoints .now) _ _ (s .args .table .now) _ (d .before .loop .inv .met);
-      left = d .before .loop .inv .left ∙ left-next (s .args .m) (s .args .table .now) _ (yes (e .before .all-within .ensures) (e .if1 .left));
+      met =
+          c .is-yes .ensures
+          ∙ was-good _ _ _ _ _ _ (said .check-segment .ensures) on
+          ∙ one-segment-more (s .args .m) (s .args .waypoints .now) _ _ (s .args .table .now) _ (d .before .loop .inv .met);
+      left = d .before .loop .inv .left ∙ left-next (s .args .m) (s .args .table .now) _ (was-within _ _ _ _ _ _ (said .check-segment .ensures) on);
     }
 
 returns-2 : tie.Need-returns-2 Inv-loop μ-loop
@@ -149,20 +131,13 @@ check-segments-spec =
     (tie.spec
     Inv-loop
     μ-loop
-    mul-cells
-    add-cells
     sub-segments
     meets-start-requires
     loop-holds
-    mul-from
-    add-all-within
-    mul-all-within
-    sub-all-within
-    part-all-within-start
-    part-all-within-end
-    all-within-requires
+    check-segment-requires
+    is-refused-requires
     returns
-    segment-meets-requires
+    is-yes-requires
     add-i
     loop-less
     loop-again

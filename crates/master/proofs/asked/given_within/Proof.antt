@@ -1,5 +1,4 @@
 -- The first list with a number out of range decides, and else the last one does. Assumes nothing.
-use mathlib.Core.Path.{sym}
 use borrow.Author.Needs.{needs}
 use Rattle.questions.proofs.Tests.{no, yes, both, last-decides}
 use Rattle.master.proofs.asked.given_within.Statement.{statement}

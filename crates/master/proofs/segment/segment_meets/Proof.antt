@@ -29,7 +29,7 @@ rest c =
     let a = begun .before .args in
     rw (
       not-false (a .before) (begun .if1 .left),
-      as-made (a .m) (a .waypoints .now) (a .end .now) (a .table .now) (a .i) (c .sums .result) (begun .before .pre .summable .most-m) (c .sums .ensures),
+      as-made (a .m) (a .waypoints .now) (a .end .now) (a .table .now) (a .i) (c .sums .result) (c .sums .ensures),
       bits-same (at (a .table .now) (a .i * (2 * a .m + 2))) (at (a .waypoints .now) (a .i)) (left .before .first .given) (left .left .given) (c .before .if2 .left),
     )
 
@@ -122,8 +122,8 @@ add-meets c = search needs
 meets-requires-2 : tie.Need-meets-requires-2
 meets-requires-2 c κs =
     let s = c .before .before .before .before .before .before .before .before .before .before in
-    let few = s .pre .summable .most-m in
-    (omega (arith, few), next-inside (s .pre) (c .before .if4 .left))
+    let few = s .pre .1 .most-m in
+    (omega (arith, few), next-inside (s .pre .0) (c .before .if4 .left))
 
 returns-5 : tie.Need-returns-5
 returns-5 c =

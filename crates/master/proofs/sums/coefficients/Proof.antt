@@ -1,22 +1,15 @@
--- `master::sums::coefficients` meets its contract: the loop fills the array of zeros from the left. Assumes nothing.
-use mathlib.Core.Path.{_≡_, refl, sym, _∙_}
-use Prim.Native.Nat.{ℕ, zero, suc, _-_, _≤_}
+-- `master::sums::coefficients` meets its contract: the loop fills the array from the left. Assumes nothing.
+use mathlib.Core.Path.{_≡_, sym}
+use Prim.Native.Nat.{_-_, _≤_}
 use native.Mathlib.Omega.{arith}
 use borrow.Author.Needs.{needs}
 use lib.IntN.{pos}
-use lib.ListN.{replicate}
 use mir.Syntax.{w64}
 use mir.Facts.{toZ-ofZ}
-use Rattle.rules.specs.Master.{at, coefficient}
-use Rattle.rules.proofs.Filling.{filled, filled-none, filled-set, filled-at, filled-past}
+use Rattle.rules.specs.Master.{coefficient}
+use Rattle.rules.proofs.Filling.{filled, length-filled, filled-none, filled-set, filled-at}
 use Rattle.master.proofs.sums.coefficients.Statement.{statement}
 use Rattle.master.proofs.sums.coefficients.Tie as tie
-
--- a list of zeros reads as zero everywhere
-zero-at : (n j : ℕ) → at (replicate n (pos 0)) j ≡ pos 0
-zero-at zero j = refl
-zero-at (suc n) zero = refl
-zero-at (suc n) (suc j) = zero-at n j
 
 abbrev Inv-loop : tie.InvT-loop
 Inv-loop m table i cells from c₀ k₀ c k = (k ≤ cells) × (c ≡ filled k (coefficient m table i) c₀)
@@ -65,12 +58,7 @@ loop-again c =
     )
 
 returns : tie.Need-returns Inv-loop μ-loop
-returns c =
-    let at-loop = c .before .loop in
-    rw (at-loop .inv .1) (record {
-      here = λ k l. filled-at (pos 0) _ _ _ k (omega arith);
-      rest = λ k l. filled-past (pos 0) _ _ _ k (omega arith) ∙ zero-at 8 k;
-    })
+returns c = rw (c .before .loop .inv .1) (length-filled _ _ _ (omega arith), λ k l. filled-at (pos 0) _ _ _ k (omega arith))
 
 pub coefficients-spec : {M : Type 1} → statement M
 coefficients-spec =

@@ -1,11 +1,11 @@
 -- By the three answers. Assumes nothing.
-use mathlib.Core.Path.{_≡_, sym, ap}
+use mathlib.Core.Path.{sym, ap}
 use mathlib.Core.Bool.{Bool}
 use borrow.Author.Needs.{needs}
 use Rattle.rules.specs.declared.MasterAnswer.{MasterAnswer}
 use Rattle.rules.specs.Master.{masterSays}
-use Rattle.uniqueness.proofs.is_yes.Statement.{statement}
-use Rattle.uniqueness.proofs.is_yes.Tie as tie
+use Rattle.master.proofs.is_yes.Statement.{statement}
+use Rattle.master.proofs.is_yes.Tie as tie
 
 abbrev isYes : MasterAnswer → Bool
 isYes answer = masterSays answer .good

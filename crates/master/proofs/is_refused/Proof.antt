@@ -1,0 +1,35 @@
+-- By the three answers. Assumes nothing.
+use mathlib.Core.Path.{sym, ap}
+use mathlib.Core.Bool.{Bool}
+use borrow.Author.Needs.{needs}
+use Rattle.rules.specs.declared.MasterAnswer.{MasterAnswer}
+use Rattle.rules.specs.Master.{masterSays}
+use Rattle.master.proofs.is_refused.Statement.{statement}
+use Rattle.master.proofs.is_refused.Tie as tie
+
+abbrev isRefused : MasterAnswer → Bool
+isRefused answer = masterSays answer .refused
+
+enum-told : tie.Need-enum-told
+enum-told c = search needs
+
+enum-told-2 : tie.Need-enum-told-2
+enum-told-2 c = search needs
+
+enum-told-3 : tie.Need-enum-told-3
+enum-told-3 c = search needs
+
+returns : tie.Need-returns
+unfolding masterSays
+returns c = sym (ap isRefused (c .enum-told .given .1))
+
+returns-2 : tie.Need-returns-2
+unfolding masterSays
+returns-2 c = sym (ap isRefused (c .enum-told2 .given .1))
+
+returns-3 : tie.Need-returns-3
+unfolding masterSays
+returns-3 c = sym (ap isRefused (c .enum-told3 .given .1))
+
+pub is-refused-spec : {M : Type 1} → statement M
+is-refused-spec = tie.close (tie.spec enum-told enum-told-2 enum-told-3 returns returns-2 returns-3)
