@@ -20,7 +20,7 @@ use Rattle.rules.proofs.Build.{by-order, coefficient-count}
 use Rattle.rules.proofs.Filling.{joined-ext}
 use Rattle.segments.specs.Kept.{HasNumbers}
 use Rattle.thomas.specs.Axis.{axisPoints}
-use Rattle.table.specs.Axes.{allAxes, Fillable}
+use Rattle.axes.specs.Axes.{allAxes, Fillable}
 
 has-numbers : (axes m : ℕ) (state : BoundaryState) (numbers : List Float) → T (validState axes m state numbers) → HasNumbers axes m state numbers
 unfolding validState

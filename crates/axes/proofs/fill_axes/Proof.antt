@@ -1,4 +1,4 @@
--- `table::fill_axes` meets its contract. The loop's invariant: the buffer has the coefficients of the first axes, and its own cells behind them. Assumes nothing.
+-- `axes::fill_axes` meets its contract. The loop's invariant: the buffer has the coefficients of the first axes, and its own cells behind them. Assumes nothing.
 use mathlib.Core.Path.{_≡_, refl, sym, ap, _∙_}
 use Prim.Native.Nat.{_+_, _-_, _*_, _≤_}
 use native.Mathlib.Omega.{arith}
@@ -7,12 +7,12 @@ use Rattle.rules.proofs.Lists.{length-listed, part-inside}
 use Rattle.rules.proofs.Build.{length-axis}
 use Rattle.rules.proofs.Cells.{next-part}
 use Rattle.rules.proofs.Parts.{Parted, none, kept, step, whole}
-use Rattle.table.specs.Axes.{axisTable}
+use Rattle.axes.specs.Axes.{axisTable}
 use Rattle.rules.proofs.Lent.{part-size, part-length}
-use Rattle.table.proofs.Sizes.{stride-small, table-small}
+use Rattle.axes.proofs.Sizes.{stride-small, table-small}
 use borrow.Author.Needs.{needs}
-use Rattle.table.proofs.fill_axes.Statement.{statement}
-use Rattle.table.proofs.fill_axes.Tie as tie
+use Rattle.axes.proofs.fill_axes.Statement.{statement}
+use Rattle.axes.proofs.fill_axes.Tie as tie
 
 abbrev Inv-loop : tie.InvT-loop
 Inv-loop m n r a c h-coeff entries rows solved-c axes waypoints inv-ds start-state start end-state end ends₀ side₀ solved₀ coeffs₀ stride axis₀ ends side solved coeffs axis =

@@ -1,11 +1,11 @@
--- `table::solve_general_thomas` meets its contract: the matrices are factored, and the axes filled with them where no pivot is zero. Assumes nothing.
+-- `axes::solve_general_thomas` meets its contract: the matrices are factored, and the axes filled with them where no pivot is zero. Assumes nothing.
 use mathlib.Core.Path.{refl, sym, _∙_}
 use borrow.Author.Tests.{not-true, not-false}
 use Rattle.thomas.proofs.Node.{node-factors, node-solved}
 use Rattle.segments.proofs.Matrices.{side-tables, upper-table}
 use borrow.Author.Needs.{needs}
-use Rattle.table.proofs.solve_general_thomas.Statement.{statement}
-use Rattle.table.proofs.solve_general_thomas.Tie as tie
+use Rattle.axes.proofs.solve_general_thomas.Statement.{statement}
+use Rattle.axes.proofs.solve_general_thomas.Tie as tie
 
 factor-nodes-requires : tie.Need-factor-nodes-requires
 factor-nodes-requires c κs = search needs

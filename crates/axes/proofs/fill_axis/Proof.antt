@@ -1,4 +1,4 @@
--- `table::fill_axis` meets its contract: the axis's coefficients are made from the numbers of both ends. Assumes nothing.
+-- `axes::fill_axis` meets its contract: the axis's coefficients are made from the numbers of both ends. Assumes nothing.
 use mathlib.Core.Path.{_∙_}
 use mathlib.Core.List.{List}
 use native.Mathlib.Nat.{le-of-eq}
@@ -9,8 +9,8 @@ use Rattle.rules.specs.Lists.{listed}
 use Rattle.rules.specs.Build.{boundaryNumber}
 use Rattle.rules.proofs.Lists.{length-listed}
 use borrow.Author.Needs.{needs}
-use Rattle.table.proofs.fill_axis.Statement.{statement}
-use Rattle.table.proofs.fill_axis.Tie as tie
+use Rattle.axes.proofs.fill_axis.Statement.{statement}
+use Rattle.axes.proofs.fill_axis.Tie as tie
 
 both-ends-requires : tie.Need-both-ends-requires
 both-ends-requires c κs = search needs
