@@ -1,5 +1,2 @@
-pub mod Signed
-pub mod Pass
 pub mod Parts
-pub mod Horner
-pub mod Meets
+pub mod Pass

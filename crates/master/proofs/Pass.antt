@@ -10,7 +10,7 @@ use lib.Dec.{T, eqb, eqb→eq, leb→le}
 use lib.IntN.{ℤ}
 use lib.ListN.{length, take}
 use lib.Ieee.Fits.{and-i, and-l, and-r}
-use borrow.Author.Tests.{eq-eqb, ne-eqb, not-true, not-false}
+use borrow.Author.Tests.{eq-eqb, ne-eqb}
 use Rattle.rules.specs.declared.MasterAnswer.the-variants.{Refused}
 use Rattle.rules.specs.Lists.{all, every}
 use Rattle.rules.specs.Questions.{Question, ask, firstNo}
@@ -21,7 +21,8 @@ use Rattle.rules.proofs.Lists.{every-at, every-of}
 use Rattle.rules.proofs.Build.{by-order, coefficient-count}
 use Rattle.rules.proofs.Questions.{numbered, never, answerAt, said-yes}
 use Rattle.rules.proofs.Master.{same→eq, eq→same, to-equations, of-equations}
-use Rattle.master.specs.Pass.{questionsBefore, segmentMeets, segmentPart, segmentSays, Shaped, meetsUpTo, passSays}
+use Rattle.equations.specs.Segment.{segmentMeets}
+use Rattle.master.specs.Pass.{questionsBefore, Shaped, meetsUpTo, passSays}
 
 -- ---- the questions
 
@@ -135,35 +136,6 @@ module _ (s : MasterSet) (two : 2 ≤ length (s .waypoints)) where
   met-is =
       same-truth _ _ (λ t. let q = of-equations s (to t) in and-i (endpointEquations s) (jointEquations s) (q .0) (q .1))
       (λ t. from (to-equations s (and-l (endpointEquations s) (jointEquations s) t) (and-r (endpointEquations s) (jointEquations s) t)))
-
--- ---- a segment's answer
-
-module _ (before : Bool) (m : ℕ) (w end table : List ℤ) (i : ℕ) where
-  -- a number out of range
-  pub segment-out : all within (segmentPart m table i) ≡ false → segmentSays before m w end table i ≡ masterSays (Refused 4)
-  unfolding segmentSays masterSays
-  segment-out e = rw e
-
-  -- none out of range
-  pub segment-answers : {b : Bool} → all within (segmentPart m table i) ≡ true → b ≡ (before && segmentMeets m w end table i)
-      → segmentSays before m w end table i ≡ record { refused = false; number = 0; good = b }
-  unfolding segmentSays
-  segment-answers e f = rw (e, ← f)
-
-  module _ {says : MasterSays} (e : says ≡ segmentSays before m w end table i) where
-    fit-is : says .refused ≡ not (all within (segmentPart m table i))
-    unfolding segmentSays
-    fit-is = ap (λ (x : MasterSays). x .refused) e
-
-    -- what the answer says of the segment's range, and of its equations
-    pub was-out : says .refused ≡ true → all within (segmentPart m table i) ≡ false
-    was-out r = not-true (all within (segmentPart m table i)) (sym fit-is ∙ r)
-
-    pub was-within : says .refused ≡ false → all within (segmentPart m table i) ≡ true
-    was-within r = not-false (all within (segmentPart m table i)) (sym fit-is ∙ r)
-
-    pub was-good : says .refused ≡ false → says .good ≡ (before && segmentMeets m w end table i)
-    was-good r = ap (λ (x : MasterSays). x .good) (e ∙ segment-answers (was-within r) refl)
 
 -- ---- the answer
 

@@ -6,30 +6,8 @@ ghost use Rattle.rules.specs.Lists.{all};
 ghost use Rattle.rules.specs.Questions.{firstNo};
 ghost use Rattle.rules.specs.Master.{setOf, within};
 ghost use Rattle.master.specs.Pass.{questionsBefore};
+use equations::range::all_within;
 use questions::valid_order;
-
-// Within ±2^40.
-fn is_within(z: i64) -> bool
-    ensures { λ r. ⌜ r ≡ within z ⌝ }
-{
-    if z < -1099511627776 {
-        return false;
-    }
-    z <= 1099511627776
-}
-
-pub fn all_within(numbers: &[i64]) -> bool
-    ensures { λ r. ⌜ r ≡ all within (now (numbers .entry)) ⌝ }
-{
-    let mut i = 0;
-    while i < numbers.len() {
-        if !is_within(numbers[i]) {
-            return false;
-        }
-        i += 1;
-    }
-    true
-}
 
 // The last question, of all but the table.
 fn given_within(waypoints: &[i64], start: &[i64], end: &[i64]) -> bool

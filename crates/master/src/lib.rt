@@ -5,12 +5,10 @@ ghost use Rattle.rules.specs.Master.{setOf, checkMaster, masterSays};
 ghost use Rattle.master.specs.Pass.{Shaped, passSays};
 
 mod asked;
-mod segment;
-mod sums;
 
 use crate::asked::master_questions;
-use crate::segment::check_segment;
-use crate::segment::meets_start;
+use equations::segment::check_segment;
+use equations::segment::meets_start;
 use rules::MasterAnswer;
 
 pub fn is_yes(answer: MasterAnswer) -> bool

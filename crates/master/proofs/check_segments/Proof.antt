@@ -13,9 +13,10 @@ use Rattle.rules.specs.declared.MasterAnswer.the-variants.{Refused}
 use Rattle.rules.specs.Lists.{all, every}
 use Rattle.rules.specs.Master.{within, meetsStart, masterSays}
 use Rattle.rules.proofs.Lists.{and-assoc, every-more}
-use Rattle.master.specs.Pass.{segmentMeets, meetsUpTo, passSays}
+use Rattle.equations.specs.Segment.{segmentMeets}
+use Rattle.master.specs.Pass.{meetsUpTo, passSays}
 use Rattle.master.proofs.Parts.{left-next, inside, none-left, segment-shaped}
-use Rattle.master.proofs.Pass.{segment-out, was-out, was-within, was-good}
+use Rattle.equations.proofs.Says.{segment-out, was-out, was-within, was-good}
 use Rattle.master.proofs.check_segments.Statement.{statement}
 use Rattle.master.proofs.check_segments.Tie as tie
 
