@@ -1,9 +1,4 @@
 pub mod Columns
-pub mod Elimination
-pub mod Exchange
-pub mod Factors
-pub mod Magnitude
-pub mod Pivots
 pub mod Steps
 pub mod Sums
 pub mod Transposed

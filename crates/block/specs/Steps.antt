@@ -1,9 +1,9 @@
 -- Single steps of crates/rules/specs/Solve.antt by themselves, for the functions that make them. A reader of the public contracts needs none of these. Assumes nothing.
 use mathlib.Core.Path.{_≡_}
-use Prim.Native.Nat.{ℕ, _*_, _/_, _%_}
-use mathlib.Core.Bool.{cond, _||_}
-use mathlib.Core.List.{List, _++_}
-use lib.ListN.{length, drop}
+use Prim.Native.Nat.{ℕ, _*_}
+use mathlib.Core.Bool.{cond}
+use mathlib.Core.List.{List}
+use lib.ListN.{length}
 use lib.Dec.{leb, ltb, eqb}
 use lib.Ieee.{Float}
 use Rattle.rules.specs.Floats.{_⊖_, _⊗_, _⊘_, _!_}
@@ -18,16 +18,6 @@ pub record Solvable (m : ℕ) (entries : List Float) (rows : List ℕ) (b y : Li
   pub rows-below : Below m rows
   pub b-length : length b ≡ m
   pub y-length : length y ≡ m
-
--- an entry after the elimination below row k, with the reciprocal of the pivot
-abbrev pub eliminatedEntry : ℕ → ℕ → Float → List Float → ℕ → ℕ → Float
-eliminatedEntry m k reciprocal a i j =
-    let multiplier = entry m a i k ⊗ reciprocal in
-    cond (leb i k || ltb j k) (entry m a i j) (cond (eqb j k) multiplier (entry m a i j ⊖ multiplier ⊗ entry m a k j))
-
--- that elimination so far: the first i rows are done, and the others are as they were
-abbrev pub eliminatedTo : ℕ → ℕ → Float → List Float → ℕ → List Float
-eliminatedTo m k reciprocal a i = listed (i * m) (λ q. eliminatedEntry m k reciprocal a (q / m) (q % m)) ++ drop (i * m) a
 
 -- the step of `forward` at row k: what it has at row i, and the whole
 abbrev pub forwardCell : ℕ → List Float → List Float → ℕ → ℕ → Float

@@ -66,7 +66,7 @@ fn factor_node(
     ensures { λ r. ⌜ (r ≡ nonzeroPivots m (nodeFactors m i)) × (now (entries .exit) ≡ nodeFactors m i .entries) × (now (rows .exit) ≡ nodeFactors m i .rows) × (now (solved .exit) ≡ nodeSolved m (i + 1) ++ drop ((i + 1) * (m * m)) (now (solved .entry))) ⌝ }
 {
     node_entries(m, i, a, b, solved, entries);
-    let ok = block::factor::factor(m, entries, rows);
+    let ok = factoring::factor(m, entries, rows);
     let at = i * (m * m);
     block::solve::solve_matrix(m, entries, rows, c, &mut solved[at..at + m * m]);
     ok

@@ -10,7 +10,7 @@ use Rattle.rules.specs.Solve.{nodeMatrix, nodeFactors, solvedC}
 use Rattle.rules.proofs.Lists.{part-inside}
 use Rattle.block.specs.Kept.{Below, transposed}
 use Rattle.nodes.specs.Kept.{Room, nodeEntries, nodeRows, nodeSolved}
-use Rattle.block.proofs.Factors.{length-rows, rows-below}
+use Rattle.factoring.proofs.Factors.{length-rows, rows-below}
 use Rattle.rules.proofs.Parts.{Parted, kept, part-at}
 use Rattle.nodes.proofs.Nodes.{length-entries, length-node-rows, length-solved}
 use Rattle.thomas.specs.Axis.{NodeFactors, NodeSolved, NodeAt}

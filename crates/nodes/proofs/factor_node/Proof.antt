@@ -5,7 +5,7 @@ use borrow.Author.Needs.{needs}
 use lib.ListN.{length}
 use Rattle.rules.specs.Solve.{nodeFactors}
 use Rattle.nodes.specs.Kept.{nodeSolved}
-use Rattle.block.proofs.Factors.{rows-below}
+use Rattle.factoring.proofs.Factors.{rows-below}
 use Rattle.nodes.proofs.Nodes.{solved-node, solved-parts}
 use Rattle.rules.proofs.Parts.{step}
 use Rattle.block.proofs.Transposed.{length-transposed}

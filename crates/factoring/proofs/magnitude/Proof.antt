@@ -1,8 +1,8 @@
--- `block::factor::magnitude` gives the number without its sign, for each kind of float. Assumes nothing.
+-- `factoring::magnitude` gives the number without its sign, for each kind of float. Assumes nothing.
 use lib.Ieee.{ofBits}
-use Rattle.block.proofs.Magnitude.{of-negative, of-zero, of-rest}
-use Rattle.block.proofs.factor.magnitude.Statement.{statement}
-use Rattle.block.proofs.factor.magnitude.Tie as tie
+use Rattle.factoring.proofs.Magnitudes.{of-negative, of-zero, of-rest}
+use Rattle.factoring.proofs.magnitude.Statement.{statement}
+use Rattle.factoring.proofs.magnitude.Tie as tie
 
 returns : tie.Need-returns
 unfolding ofBits

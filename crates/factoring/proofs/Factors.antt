@@ -11,7 +11,7 @@ use Rattle.rules.specs.Lists.{listed}
 use Rattle.rules.specs.Solve.{entry, matrix, pivotRow, exchange, exchanged, eliminated, factorSteps, factor}
 use Rattle.rules.proofs.Lists.{length-listed}
 use Rattle.rules.proofs.Filling.{listed-at, length-matrix}
-use Rattle.block.proofs.Exchange.{exchange-below}
+use Rattle.factoring.proofs.Exchange.{exchange-below}
 
 pivot-below : (m : ℕ) (a : List Float) (k d : ℕ) → k + d < m → pivotRow m a k d < m
 unfolding pivotRow

@@ -1,4 +1,4 @@
--- `block::factor::eliminate_row` eliminates one row. The loop's invariant: of any matrix that was done up to row i, row i is done in the columns before j. Assumes nothing.
+-- `factoring::eliminate_row` eliminates one row. The loop's invariant: of any matrix that was done up to row i, row i is done in the columns before j. Assumes nothing.
 use mathlib.Core.Path.{_≡_, sym, _∙_}
 use mathlib.Core.List.{List}
 use Prim.Native.Nat.{_+_, _-_, _*_, _<_, _≤_}
@@ -8,9 +8,9 @@ use lib.Ieee.{Float}
 use Rattle.rules.specs.Floats.{_⊗_}
 use Rattle.rules.specs.Solve.{entry}
 use Rattle.rules.proofs.Lists.{part-inside}
-use Rattle.block.proofs.Elimination.{rowDone, multiplier-is, row-start, row-step, row-done}
-use Rattle.block.proofs.factor.eliminate_row.Statement.{statement}
-use Rattle.block.proofs.factor.eliminate_row.Tie as tie
+use Rattle.factoring.proofs.Elimination.{rowDone, multiplier-is, row-start, row-step, row-done}
+use Rattle.factoring.proofs.eliminate_row.Statement.{statement}
+use Rattle.factoring.proofs.eliminate_row.Tie as tie
 
 abbrev Inv-loop : tie.InvT-loop
 Inv-loop m a₀ k i reciprocal multiplier j₀ a j = (k < j) × (j ≤ m) × (i * m + m ≤ m * m) × (k * m + m ≤ m * m) × (length a ≡ m * m) × ((b : List Float) → length b ≡ m * m → multiplier ≡ entry m b i k ⊗ reciprocal → a₀ ≡ rowDone m k reciprocal b i (k + 1) → a ≡ rowDone m k reciprocal b i j)

@@ -7,7 +7,7 @@ ghost use lib.ListN.{length, getD};
 ghost use lib.Ieee.{Float};
 ghost use Rattle.rules.specs.Floats.{magnitude};
 ghost use Rattle.rules.specs.Lists.{listed};
-ghost use Rattle.block.specs.Steps.{eliminatedTo};
+ghost use Rattle.factoring.specs.Steps.{eliminatedTo};
 ghost use Rattle.rules.specs.Solve.{entry, pivotRow, exchange, matrix, eliminated, factor, nonzeroPivots};
 
 // The number without its sign.

@@ -1,4 +1,4 @@
--- `block::factor::factor` makes the steps of factoring. The loop's invariant: the first k are made. Assumes nothing.
+-- `factoring::factor` makes the steps of factoring. The loop's invariant: the first k are made. Assumes nothing.
 use mathlib.Core.Path.{_≡_, refl, ap, _∙_}
 use mathlib.Core.List.{List, []}
 use Prim.Native.Nat.{_-_, _*_, _≤_}
@@ -6,9 +6,9 @@ use native.Mathlib.Omega.{arith}
 use lib.ListN.{length}
 use lib.Ieee.{Float}
 use Rattle.rules.specs.Solve.{factorSteps, factor, nonzeroPivots}
-use Rattle.block.proofs.Factors.{step-entries, step-rows}
-use Rattle.block.proofs.factor.factor.Statement.{statement}
-use Rattle.block.proofs.factor.factor.Tie as tie
+use Rattle.factoring.proofs.Factors.{step-entries, step-rows}
+use Rattle.factoring.proofs.factor.Statement.{statement}
+use Rattle.factoring.proofs.factor.Tie as tie
 
 abbrev Inv-loop : tie.InvT-loop
 Inv-loop m a₀ rows₀ k₀ a rows k = (k ≤ m) × (length a ≡ m * m) × (length rows ≡ m) × (a ≡ factorSteps m a₀ k .entries) × (rows ≡ factorSteps m a₀ k .rows)

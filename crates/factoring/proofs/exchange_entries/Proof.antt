@@ -1,13 +1,13 @@
--- `block::factor::exchange_entries` exchanges two rows. The loop's invariant: they are exchanged in the columns before j. Assumes nothing.
+-- `factoring::exchange_entries` exchanges two rows. The loop's invariant: they are exchanged in the columns before j. Assumes nothing.
 use mathlib.Core.Path.{_≡_, sym, _∙_}
 use Prim.Native.Nat.{_+_, _-_, _*_, _≤_}
 use native.Mathlib.Omega.{arith}
 use lib.ListN.{length, length-set}
 use Rattle.rules.specs.Solve.{matrix}
 use Rattle.rules.proofs.Lists.{part-inside}
-use Rattle.block.proofs.Exchange.{exchangedTo, exchange-none, exchange-all, exchange-step}
-use Rattle.block.proofs.factor.exchange_entries.Statement.{statement}
-use Rattle.block.proofs.factor.exchange_entries.Tie as tie
+use Rattle.factoring.proofs.Exchange.{exchangedTo, exchange-none, exchange-all, exchange-step}
+use Rattle.factoring.proofs.exchange_entries.Statement.{statement}
+use Rattle.factoring.proofs.exchange_entries.Tie as tie
 
 abbrev Inv-loop : tie.InvT-loop
 Inv-loop m a₀ k p j₀ a j = (j ≤ m) × (k * m + m ≤ m * m) × (p * m + m ≤ m * m) × (length a ≡ m * m) × (a ≡ matrix m m (exchangedTo m a₀ k p j))

@@ -1,4 +1,4 @@
--- `block::factor::eliminate` eliminates below row k. The loop's invariant: the rows before i are done, and the others are as they were. Assumes nothing.
+-- `factoring::eliminate` eliminates below row k. The loop's invariant: the rows before i are done, and the others are as they were. Assumes nothing.
 use mathlib.Core.Path.{_≡_, sym, ap, _∙_}
 use mathlib.Core.List.{[]}
 use Prim.Native.Nat.{_+_, _-_, _*_, _<_, _≤_}
@@ -6,12 +6,12 @@ use native.Mathlib.Omega.{arith}
 use lib.ListN.{length}
 use lib.Ieee.{Float, ofBits}
 use Rattle.rules.specs.Floats.{_⊘_, +1}
-use Rattle.block.specs.Steps.{eliminatedTo}
+use Rattle.factoring.specs.Steps.{eliminatedTo}
 use Rattle.rules.proofs.Lists.{part-inside}
 use Rattle.rules.proofs.Cells.{entry-read}
-use Rattle.block.proofs.Elimination.{elimination-start, elimination-all}
-use Rattle.block.proofs.factor.eliminate.Statement.{statement}
-use Rattle.block.proofs.factor.eliminate.Tie as tie
+use Rattle.factoring.proofs.Elimination.{elimination-start, elimination-all}
+use Rattle.factoring.proofs.eliminate.Statement.{statement}
+use Rattle.factoring.proofs.eliminate.Tie as tie
 
 abbrev Inv-loop : tie.InvT-loop
 Inv-loop m a₀ k reciprocal i₀ a i = (k < i) × (i ≤ m) × (length a ≡ m * m) × (a ≡ eliminatedTo m k reciprocal a₀ i)

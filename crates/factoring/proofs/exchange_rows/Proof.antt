@@ -1,8 +1,8 @@
--- `block::factor::exchange_rows` exchanges two numbers of a list. Assumes nothing.
+-- `factoring::exchange_rows` exchanges two numbers of a list. Assumes nothing.
 use borrow.Author.Needs.{needs}
-use Rattle.block.proofs.Exchange.{swapped-listed}
-use Rattle.block.proofs.factor.exchange_rows.Statement.{statement}
-use Rattle.block.proofs.factor.exchange_rows.Tie as tie
+use Rattle.factoring.proofs.Exchange.{swapped-listed}
+use Rattle.factoring.proofs.exchange_rows.Statement.{statement}
+use Rattle.factoring.proofs.exchange_rows.Tie as tie
 
 mul-x : tie.Need-mul-x
 mul-x c = search needs

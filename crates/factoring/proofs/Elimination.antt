@@ -11,7 +11,7 @@ use lib.Ieee.{Float, nan}
 use Rattle.rules.specs.Floats.{_!_, _⊖_, _⊗_, _⊘_, +0, +1}
 use Rattle.rules.specs.Solve.{entry, matrix, Factored, eliminated}
 use Rattle.rules.proofs.Filling.{filled, flat, flat-at, filled-set, filled-at, filled-past, filled-on, filled-start, filled-all, matrix-flat}
-use Rattle.block.specs.Steps.{eliminatedEntry, eliminatedTo}
+use Rattle.factoring.specs.Steps.{eliminatedEntry, eliminatedTo}
 use Rattle.rules.proofs.Lists.{part-inside}
 use Rattle.rules.proofs.Cells.{cell-inside, read}
 

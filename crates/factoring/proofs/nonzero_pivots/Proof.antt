@@ -1,4 +1,4 @@
--- `block::factor::nonzero_pivots` says whether every pivot is other than zero. The loop's invariant: those before k are. Assumes nothing.
+-- `factoring::nonzero_pivots` says whether every pivot is other than zero. The loop's invariant: those before k are. Assumes nothing.
 use mathlib.Core.Path.{_≡_, refl, sym, _∙_}
 use mathlib.Core.Bool.{true, not}
 use Prim.Native.Nat.{_+_, _*_, _-_, _≤_, _<_}
@@ -9,9 +9,9 @@ use Rattle.rules.specs.Lists.{every}
 use Rattle.rules.specs.Solve.{entry, nonzeroPivots}
 use Rattle.rules.proofs.Cells.{cell-inside}
 use Rattle.rules.proofs.Lists.{every-fails, every-more}
-use Rattle.block.proofs.Pivots.{pivot-test}
-use Rattle.block.proofs.factor.nonzero_pivots.Statement.{statement}
-use Rattle.block.proofs.factor.nonzero_pivots.Tie as tie
+use Rattle.factoring.proofs.Pivots.{pivot-test}
+use Rattle.factoring.proofs.nonzero_pivots.Statement.{statement}
+use Rattle.factoring.proofs.nonzero_pivots.Tie as tie
 
 abbrev Inv-loop : tie.InvT-loop
 Inv-loop m a k₀ k = (k ≤ m) × (every k (λ i. not (eq (entry m a i i) +0)) ≡ true)

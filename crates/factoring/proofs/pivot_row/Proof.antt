@@ -1,4 +1,4 @@
--- `block::factor::pivot_row` finds the pivot's row. The loop's invariant: `best` is the pivot's row of the rows from k to before `next`. Assumes nothing.
+-- `factoring::pivot_row` finds the pivot's row. The loop's invariant: `best` is the pivot's row of the rows from k to before `next`. Assumes nothing.
 use mathlib.Core.Path.{_≡_, _∙_}
 use mathlib.Core.Bool.{Bool, true, false, cond}
 use mathlib.Core.Logic.{⊎-elim}
@@ -7,9 +7,9 @@ use native.Mathlib.Omega.{arith}
 use lib.Ieee.{lt}
 use Rattle.rules.specs.Solve.{pivotRow}
 use Rattle.rules.proofs.Cells.{cell-inside}
-use Rattle.block.proofs.Pivots.{pivot-step}
-use Rattle.block.proofs.factor.pivot_row.Statement.{statement}
-use Rattle.block.proofs.factor.pivot_row.Tie as tie
+use Rattle.factoring.proofs.Pivots.{pivot-step}
+use Rattle.factoring.proofs.pivot_row.Statement.{statement}
+use Rattle.factoring.proofs.pivot_row.Tie as tie
 
 abbrev Inv-loop : tie.InvT-loop
 Inv-loop m a k best₀ next₀ best next = (k < next) × (next ≤ m) × (k ≤ best) × (best < next) × (best ≡ pivotRow m a k (next - suc k))

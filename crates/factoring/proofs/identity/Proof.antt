@@ -1,11 +1,11 @@
--- `block::factor::identity` sets each place to its own number. The loop's invariant: the places before i are set. Assumes nothing.
+-- `factoring::identity` sets each place to its own number. The loop's invariant: the places before i are set. Assumes nothing.
 use mathlib.Core.Path.{_≡_, refl, sym, _∙_}
 use Prim.Native.Nat.{_-_, _≤_}
 use native.Mathlib.Omega.{arith}
 use lib.ListN.{length, length-set}
 use Rattle.rules.proofs.Filling.{filled, filled-none, filled-set, filled-all}
-use Rattle.block.proofs.factor.identity.Statement.{statement}
-use Rattle.block.proofs.factor.identity.Tie as tie
+use Rattle.factoring.proofs.identity.Statement.{statement}
+use Rattle.factoring.proofs.identity.Tie as tie
 
 abbrev Inv-loop : tie.InvT-loop
 Inv-loop rows₀ i₀ rows i = (i ≤ length rows₀) × (length rows ≡ length rows₀) × (rows ≡ filled i (λ j. j) rows₀)
