@@ -49,6 +49,7 @@ pub fn master_questions(
     if end.len() != m {
         return 303; // the end state
     }
+    // Both are worked out before either is asked: their order is then that of two tests, and no more.
     let fits = table.len() == (points - 1) * (order + 1);
     let in_range = given_within(waypoints, start, end);
     if !fits {
