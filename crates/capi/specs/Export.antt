@@ -1,7 +1,9 @@
 -- What the numbers that a caller hands over stand for. Assumes nothing.
+use mathlib.Core.Path.{_≡_}
+use mathlib.Core.Logic.{_↔_}
 use Prim.Native.Nat.{ℕ}
 use mathlib.Core.Bool.{true, false, cond}
-use lib.Dec.{eqb}
+use lib.Dec.{T, eqb}
 use lib.Ieee.{Float}
 use Rattle.rules.specs.declared.OutOfRangeMode.{OutOfRangeMode}
 use Rattle.rules.specs.declared.OutOfRangeMode.the-variants.{Error, Clamp}
@@ -9,7 +11,7 @@ use Rattle.rules.specs.declared.BoundaryState.{BoundaryState}
 use Rattle.rules.specs.declared.BoundaryState.the-variants.{None, Given}
 use Rattle.rules.specs.declared.SplineConfig.{SplineConfig}
 use Rattle.rules.specs.declared.PathRecord.{PathRecord}
-use Rattle.rules.specs.Master.{MasterSays}
+use Rattle.rules.specs.Master.{MasterSet, MasterSays, checkMaster}
 
 -- A state by its kind: 0 is none, 1 is given, 2 is given per unit of s. Any other kind is a state of the largest usize as rows: question 6 says no to it, as no axes that question 4 lets pass are so many.
 unfoldable pub stateOf : ℕ → ℕ → ℕ → BoundaryState
@@ -49,3 +51,7 @@ pathOf order segments axes lo hi inv mode = record {
 -- 1 is yes and 0 is no, and a refusal has its number.
 unfoldable pub checkNumber : MasterSays → ℕ
 checkNumber says = cond (says .refused) (says .number) (cond (says .good) 1 0)
+
+-- No refusal has the number 1: it stands for yes and for nothing else. Proved by `one-is-yes` of proofs/Numbers.antt.
+unfoldable pub OneIsYes : Type 0
+OneIsYes = (s : MasterSet) → (checkNumber (checkMaster s) ≡ 1) ↔ T (checkMaster s .good)

@@ -1,38 +1,33 @@
 -- The tests of the equations, as the code makes them one after the other. Assumes nothing.
-use mathlib.Core.Path.{_≡_, refl, sym, ap, ap₂, _∙_, subst}
+use mathlib.Core.Path.{_≡_, refl, sym, ap, ap₂, _∙_}
 use mathlib.Core.Bool.{Bool, true, false, cond, _&&_}
 use mathlib.Core.List.{List}
 use Prim.Native.Nat.{ℕ, zero, suc, _+_, _-_, _*_, _<_, _≤_, _^_}
 use native.Mathlib.Numerals.{add-one}
 use native.Mathlib.Nat.{add-zero}
 use native.Mathlib.Omega.{arith}
-use lib.Dec.{T, eqb}
+use lib.Dec.{eqb, not-T}
 use lib.IntN.{ℤ}
 use lib.ListN.{length}
 use lib.Signed.{mag}
-use lib.Ieee.Bits.{is-true}
+use lib.Ieee.Bits.{is-true, is-false}
 use mir.Syntax.{w64}
 use mir.Val.{ofZ, toZ, hbits}
-use mir.ValLaws.{toZ-ofZ}
 use Rattle.rules.specs.Lists.{every}
 use Rattle.rules.specs.Master.{same, at, atEnd, coefficient, meetsStart}
-use Rattle.rules.proofs.Lists.{every-at, part-inside}
+use Rattle.rules.proofs.Lists.{every-fails, every-more, part-inside}
 use Rattle.rules.proofs.Master.{same→eq, eq→same}
 use Rattle.equations.specs.Segment.{SegmentShaped, meetsAt, segmentMeets}
+use Rattle.equations.proofs.Signed.{as-read}
 
 -- ---- one test
 
-is-false : (b : Bool) → (T b → ⊥) → b ≡ false
-is-false true h = absurd (h tt)
-is-false false h = refl
-
 -- the code compares bits, and numbers that fit 64 bits are the same exactly where their bits are
 pub bits-same : (a b : ℤ) → mag a < 2 ^ hbits w64 → mag b < 2 ^ hbits w64 → ofZ w64 a ≡ ofZ w64 b → same a b ≡ true
-bits-same a b f g e =
-    is-true (same a b) (eq→same a b (sym (toZ-ofZ w64 a (record { sfits = f })) ∙ ap (toZ w64) e ∙ toZ-ofZ w64 b (record { sfits = g })))
+bits-same a b f g e = is-true (same a b) (eq→same a b (sym (as-read a f) ∙ ap (toZ w64) e ∙ as-read b g))
 
 pub bits-differ : (a b : ℤ) → (ofZ w64 a ≡ ofZ w64 b → ⊥) → same a b ≡ false
-bits-differ a b h = is-false (same a b) (λ t. h (ap (ofZ w64) (same→eq a b t)))
+bits-differ a b h = is-false (same a b) (not-T (same a b) (λ t. h (ap (ofZ w64) (same→eq a b t))))
 
 -- ---- a loop's tests
 
@@ -46,14 +41,12 @@ module _ (sums numbers : List ℤ) (from r j : ℕ) (here : j ≡ from + r) wher
 
   pub one-differs : (count : ℕ) → r < count → (ofZ w64 a ≡ ofZ w64 b → ⊥) → meetsAt sums numbers from count ≡ false
   unfolding meetsAt
-  one-differs count l h =
-      let differ : same (at sums (suc r)) (at numbers (from + r)) ≡ false = rw (add-one, here) at (bits-differ a b h) in
-      is-false (meetsAt sums numbers from count) (λ t. subst T differ (every-at count _ t r l))
+  one-differs count l h = sym (every-fails count _ r l (rw (add-one, here) at (bits-differ a b h)))
 
   pub one-more : meetsAt sums numbers from r ≡ true → mag a < 2 ^ hbits w64 → mag b < 2 ^ hbits w64 → ofZ w64 a ≡ ofZ w64 b
       → meetsAt sums numbers from (r + 1) ≡ true
-  unfolding meetsAt every
-  one-more e f g h = rw add-one (ap₂ _&&_ e (rw (add-one, here) at (bits-same a b f g h)))
+  unfolding meetsAt
+  one-more e f g h = every-more _ r true e ∙ rw (add-one, here) at (bits-same a b f g h)
 
 -- ---- the tests as the code makes them
 

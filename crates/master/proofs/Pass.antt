@@ -17,6 +17,7 @@ use Rattle.rules.specs.Questions.{Question, ask, firstNo}
 use Rattle.rules.specs.Tables.{mOf}
 use Rattle.rules.specs.Master.{MasterSet, Equations, within, same, at, coefficient, atEnd, segments, meetsStart}
 use Rattle.rules.specs.Master.{MasterSays, masterQuestions, masterNumber, masterSays, endpointEquations, jointEquations, checkMaster}
+use Rattle.rounding.proofs.Sums.{same-test}
 use Rattle.rules.proofs.Lists.{every-at, every-of}
 use Rattle.rules.proofs.Build.{by-order, coefficient-count}
 use Rattle.rules.proofs.Questions.{numbered, never, answerAt, said-yes}
@@ -59,13 +60,6 @@ shaped s e =
     }
 
 -- ---- the equations
-
--- tests that pass together are the same
-same-truth : (a b : Bool) → (T a → T b) → (T b → T a) → a ≡ b
-same-truth true true f g = refl
-same-truth true false f g = absurd (f tt)
-same-truth false true f g = absurd (g tt)
-same-truth false false f g = refl
 
 module _ (s : MasterSet) (two : 2 ≤ length (s .waypoints)) where
   abbrev m : ℕ
@@ -134,7 +128,7 @@ module _ (s : MasterSet) (two : 2 ≤ length (s .waypoints)) where
   -- the equations in the order of the pass are those of the definition
   pub met-is : meetsUpTo m w (s .start) (s .end) (s .table) n ≡ (endpointEquations s && jointEquations s)
   met-is =
-      same-truth _ _ (λ t. let q = of-equations s (to t) in and-i (endpointEquations s) (jointEquations s) (q .0) (q .1))
+      same-test _ _ (λ t. let q = of-equations s (to t) in and-i (endpointEquations s) (jointEquations s) (q .0) (q .1))
       (λ t. from (to-equations s (and-l (endpointEquations s) (jointEquations s) t) (and-r (endpointEquations s) (jointEquations s) t)))
 
 -- ---- the answer

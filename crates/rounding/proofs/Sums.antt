@@ -17,6 +17,10 @@ same-test true false p q = absurd (p tt)
 same-test false true p q = absurd (q tt)
 same-test false false p q = refl
 
+pub and-true : (s : Bool) → (s && true) ≡ s
+and-true true = refl
+and-true false = refl
+
 pub not-not : (s : Bool) → not (not s) ≡ s
 not-not true = refl
 not-not false = refl
@@ -68,10 +72,6 @@ sum-more f s a b c l =
     apart f s a b c
     ∙ ap₂ (λ (u v : Bool). cond u (round f (not s) (b - a) c) (round f (s && v) (a - b) c)) (is-false (ltb a b) (le→nltb a b (le-of-lt l))) (is-true (ltb b a) (lt→ltb b a l))
     ∙ ap (λ (v : Bool). round f v (a - b) c) (and-true s)
-  where
-    and-true : (s : Bool) → (s && true) ≡ s
-    and-true true = refl
-    and-true false = refl
 
 pub sum-less : (f : Format) (s : Bool) (a b c : ℕ) → a < b → sum f s a (not s) b c ≡ round f (not s) (b - a) c
 sum-less f s a b c l = apart f s a b c ∙ ap (λ (u : Bool). cond u (round f (not s) (b - a) c) (round f (s && ltb b a) (a - b) c)) (is-true (ltb a b) (lt→ltb a b l))

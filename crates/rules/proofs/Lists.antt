@@ -8,9 +8,10 @@ use Prim.Native.Nat.{ℕ, zero, suc, _+_, _*_, _<_, _≤_}
 use native.Mathlib.Nat.{eq-or-lt-of-le, le-of-suc-le-suc, le-antisymm, not-suc-le-zero, le-of-eq, add-zero, add-mul, zero-mul, suc-mul, mul-assoc, mul-le-mul-right}
 use native.Mathlib.Numerals.{add-one}
 use native.Mathlib.Omega.{arith}
-use lib.Dec.{T}
+use lib.Dec.{T, not-T}
 use lib.ListN.{length, getD, take, drop, length-append, length-drop}
 use lib.Seq.{drop-cons, drop-length, take-all, take-append-le, drop-append-le, drop-append-add}
+use lib.Ieee.Bits.{is-false}
 use lib.Ieee.Fits.{and-i, and-l, and-r}
 use Rattle.rules.specs.Lists.{joined, listed, all, every}
 
@@ -113,11 +114,7 @@ every-of (suc n) f h = and-i (every n f) (f n) (every-of n f (λ i l. h i (omega
 
 -- a loop over the places: one where the test fails decides, and one more is tested after those before it
 pub every-fails : (n : ℕ) (f : ℕ → Bool) (i : ℕ) → i < n → f i ≡ false → false ≡ every n f
-every-fails n f i h e = go (every n f) (λ t. subst T e (every-at n f t i h))
-  where
-    go : (b : Bool) → (T b → ⊥) → false ≡ b
-    go true fails = absurd (fails tt)
-    go false fails = refl
+every-fails n f i h e = sym (is-false (every n f) (not-T (every n f) (λ t. subst T e (every-at n f t i h))))
 
 pub every-more : (f : ℕ → Bool) (n : ℕ) (b : Bool) → every n f ≡ b → every (n + 1) f ≡ (b && f n)
 unfolding every

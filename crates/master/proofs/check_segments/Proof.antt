@@ -1,7 +1,7 @@
 -- The loop's invariant: of the segments behind it all numbers are within ±2^40, and `good` says whether their equations hold, the start state's with them.
 -- Assumes nothing.
 use mathlib.Core.Path.{_≡_, refl, sym, ap, _∙_}
-use mathlib.Core.Bool.{Bool, true, false, _&&_}
+use mathlib.Core.Bool.{Bool, false, _&&_}
 use mathlib.Core.List.{List}
 use Prim.Native.Nat.{ℕ, _+_, _-_, _*_, _≤_}
 use native.Mathlib.Nat.{le-antisymm, zero-mul}
@@ -12,6 +12,7 @@ use borrow.Author.Needs.{needs}
 use Rattle.rules.specs.declared.MasterAnswer.the-variants.{Refused}
 use Rattle.rules.specs.Lists.{all, every}
 use Rattle.rules.specs.Master.{within, meetsStart, masterSays}
+use Rattle.rounding.proofs.Sums.{and-true}
 use Rattle.rules.proofs.Lists.{and-assoc, every-more}
 use Rattle.equations.specs.Segment.{segmentMeets}
 use Rattle.master.specs.Pass.{meetsUpTo, passSays}
@@ -35,10 +36,6 @@ abbrev μ-loop : tie.MeasureT-loop
 no-segment : (m : ℕ) (w start end table : List ℤ) → meetsUpTo m w start end table 0 ≡ meetsStart m (length w - 1) table start
 unfolding meetsUpTo every
 no-segment m w start end table = and-true (meetsStart m (length w - 1) table start)
-  where
-    and-true : (b : Bool) → (b && true) ≡ b
-    and-true true = refl
-    and-true false = refl
 
 one-segment-more : (m : ℕ) (w start end table : List ℤ) (i : ℕ) {good : Bool} → good ≡ meetsUpTo m w start end table i
     → (good && segmentMeets m w end table i) ≡ meetsUpTo m w start end table (i + 1)
