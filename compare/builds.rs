@@ -1,58 +1,20 @@
-//! The build of the static library against the Rust text of copp. `compare/builds` builds and runs it.
-//!
-//!   builds compare COUNT   compares COUNT generated calls: builds, and refusals of every kind
-//!   builds time            times both
-//!   builds pieces          prints what crates/build_pieces expects, from the Rust text alone
+//! The build against the Rust text of copp.
 //!
 //! A build's expected coefficients and inv_ds come from the Rust text. At order 3, and with two points at
 //! any order, it computes them by itself; at orders 5 and 7 with three or more points it factors and
 //! solves over the stand-in for nalgebra, which follows document 01. A refusal's expected number comes from
 //! document 01's questions as plain tests (`Build::number` of input.rs); where the Rust refuses too, its
-//! own kind of refusal has to be the same. NaNs are alike, and the two zeros are alike; all else is
-//! compared bit for bit.
+//! own kind of refusal has to be the same. NaNs are alike, and the two zeros are alike, though those of another
+//! sign are counted; all else is compared bit for bit.
 
-use input::diag::PathError;
-use input::{diag, path, Build, State, NOT_FINITE};
-use random::Random;
-use spline::{coefficients, inv_ds, SplinePath};
-use std::collections::BTreeMap;
+use crate::diag::PathError;
+use crate::input::{Build, State, HUGE, NOT_FINITE};
+use crate::library::raw::spline_build;
+use crate::random::Random;
+use crate::rows::{alike, best, counted, guarded, lent, print_time, same_bits, Count, Refusals};
+use crate::spline::{coefficients, inv_ds, SplinePath};
 use std::hint::black_box;
 use std::time::Instant;
-
-mod asked;
-mod input;
-mod random;
-
-// The text of src/path/spline.rs, unchanged, with functions after it that hand out the coefficients and inv_ds.
-#[allow(dead_code)]
-mod spline;
-
-#[link(name = "capi", kind = "static")]
-extern "C" {
-    fn spline_build(
-        order: usize,
-        points: usize,
-        axes: usize,
-        waypoints: *const f64,
-        waypoint_count: usize,
-        start_kind: u8,
-        start_rows: usize,
-        start_columns: usize,
-        start: *const f64,
-        start_count: usize,
-        end_kind: u8,
-        end_rows: usize,
-        end_columns: usize,
-        end: *const f64,
-        end_count: usize,
-        s_min: f64,
-        s_max: f64,
-        mode: u8,
-        coefficients: *mut f64,
-        coefficient_count: usize,
-        inv_ds: *mut f64,
-    ) -> u32;
-}
 
 /// A state's kind, rows and columns as the library takes them. Rows that no list has stand for a kind that
 /// does not exist, which no shape fits.
@@ -97,14 +59,6 @@ fn ours(b: &Build, cells: &mut [f64], inv_ds: &mut f64) -> u32 {
     }
 }
 
-fn alike(x: f64, y: f64) -> bool {
-    x == y || x.is_nan() && y.is_nan()
-}
-
-fn same_bits(x: f64, y: f64) -> bool {
-    x.to_bits() == y.to_bits()
-}
-
 // ---- compare
 
 /// What the Rust says to a call that it can be given, by document 01's numbers.
@@ -122,22 +76,38 @@ fn rust_number(b: &Build) -> Option<u32> {
     })
 }
 
-const LENGTHS: usize = 11;
+const LENGTHS: u64 = 11;
 
-/// One more or one less of what is counted.
-fn step(b: &mut Build, which: usize, up: bool) {
-    let by = |n: &mut usize| *n = if up { *n + 1 } else { n.saturating_sub(1) };
-    let list = |l: &mut Vec<f64>| l.resize(if up { l.len() + 1 } else { l.len().saturating_sub(1) }, 0.5);
+/// One more or less of what is counted, or some.
+fn step(random: &mut Random, b: &mut Build, which: usize) {
+    let (up, by) = (random.one_in(2), random.pick(&[1, 1, 2, 3, 8]));
+    let moved = |n: usize| if up { n + by } else { n.saturating_sub(by) };
+    let list = |l: &mut Vec<f64>| l.resize(moved(l.len()), 0.5);
     let state = if which < 7 { &mut b.start } else { &mut b.end };
     match which {
-        0 => by(&mut b.order),
-        1 => by(&mut b.points),
-        2 => by(&mut b.axes),
+        0 => b.order = moved(b.order),
+        1 => b.points = moved(b.points),
+        2 => b.axes = moved(b.axes),
         3 => list(&mut b.waypoints),
-        10 => by(&mut b.cells),
-        4 | 7 => state.given.iter_mut().for_each(|(rows, _, _)| by(rows)),
-        5 | 8 => state.given.iter_mut().for_each(|(_, columns, _)| by(columns)),
+        10 => b.cells = moved(b.cells),
+        4 | 7 => state.given.iter_mut().for_each(|(rows, _, _)| *rows = moved(*rows)),
+        5 | 8 => state.given.iter_mut().for_each(|(_, columns, _)| *columns = moved(*columns)),
         _ => list(&mut state.numbers),
+    }
+}
+
+/// A count that no list has.
+fn enlarge(random: &mut Random, b: &mut Build) {
+    let huge = random.pick(&HUGE);
+    match random.below(5) {
+        0 => b.order = huge,
+        1 => b.points = huge,
+        2 => b.axes = huge,
+        which => {
+            let state = if random.one_in(2) { &mut b.start } else { &mut b.end };
+            let numbers = state.numbers.len();
+            state.given = Some(if which == 3 { (huge, numbers, false) } else { (numbers, huge, true) });
+        }
     }
 }
 
@@ -160,17 +130,20 @@ fn served(random: &mut Random) -> Build {
 }
 
 /// Something that is to be refused; some of it is served all the same, and counts as a build.
-fn doubtful(random: &mut Random, trial: u64) -> Build {
+fn doubtful(random: &mut Random) -> Build {
     let mut b = served(random);
-    match trial % 8 {
-        // at a limit or one beyond, the lists as long as they would have to be
+    match random.below(9) {
+        // round the limits, the lists as long as they would have to be
         0 | 1 => {
-            let order = 2 + random.below(7) as usize;
-            let points = random.pick(&[0, 1, 2, 257, 258]);
-            let axes = random.pick(&[0, 1, 8, 9]);
+            let order = random.below(11) as usize;
+            let points = random.pick(&[0, 1, 2, 3, 256, 257, 258, 259, 265]);
+            let axes = random.pick(&[0, 1, 2, 7, 8, 9, 10]);
             b = Build::random(random, order, points, axes);
         }
-        2 | 3 => step(&mut b, random.below(LENGTHS as u64) as usize, trial % 16 < 8),
+        2 | 3 => {
+            let which = random.below(LENGTHS) as usize;
+            step(random, &mut b, which);
+        }
         4 => {
             let lists = [&mut b.waypoints, &mut b.start.numbers, &mut b.end.numbers];
             let list = lists.into_iter().nth(random.below(3) as usize).unwrap();
@@ -184,54 +157,56 @@ fn doubtful(random: &mut Random, trial: u64) -> Build {
             state.given = Some((usize::MAX, usize::MAX, random.one_in(2)));
         }
         6 => b.damage(random.below(Build::DAMAGES as u64) as usize),
+        7 => enlarge(random, &mut b),
         // two things at once: the earlier question's number has to come
         _ => {
             b.damage(random.below(Build::DAMAGES as u64) as usize);
-            step(&mut b, random.below(LENGTHS as u64) as usize, random.one_in(2));
+            let which = random.below(LENGTHS) as usize;
+            step(random, &mut b, which);
         }
     }
     b
 }
 
-#[derive(Default)]
-struct Count {
-    calls: u64,
-    cells: u64,
-    unlike: u64,
-}
-
-const GUARD: usize = 16;
 /// No answer of the library's.
 const UNSET: f64 = 1.0 / 3.0;
 
-/// A call of ours: its number, the buffer with cells on both sides of it, how it was before, and inv_ds.
+/// A call of ours: its number, the buffer with its guard cells after it and before it, and inv_ds.
 fn run(b: &Build) -> (u32, Vec<f64>, Vec<f64>, f64) {
-    let before: Vec<f64> = (0..b.cells as u64 + 2 * GUARD as u64).map(|i| f64::from_bits(0x4bad_0000_0000_0000 + i)).collect();
+    let before = guarded(0, b.cells);
     let mut after = before.clone();
     let mut quotient = UNSET;
-    let number = ours(b, &mut after[GUARD..GUARD + b.cells], &mut quotient);
+    let number = ours(b, lent(&mut after), &mut quotient);
     (number, after, before, quotient)
 }
 
-fn unchanged(after: &[f64], before: &[f64]) -> bool {
-    after.iter().zip(before).all(|(&x, &y)| same_bits(x, y))
-}
-
-fn build_is_like(b: &Build) -> bool {
-    let (number, after, before, quotient) = run(b);
+fn count_build(count: &mut Count, b: &Build) -> bool {
+    let (number, after, mut expected, quotient) = run(b);
     let path = b.path().expect("the Rust builds it");
-    let inner = GUARD..GUARD + b.cells;
-    number == 0
-        && coefficients(&path).len() == b.cells
-        && after[inner.clone()].iter().zip(coefficients(&path)).all(|(&x, &y)| alike(x, y))
-        && same_bits(quotient, inv_ds(&path))
-        && unchanged(&after[..inner.start], &before[..inner.start])
-        && unchanged(&after[inner.end..], &before[inner.end..])
+    if coefficients(&path).len() != b.cells {
+        return false;
+    }
+    lent(&mut expected).copy_from_slice(coefficients(&path));
+    let pairs = || after.iter().zip(&expected);
+    count.numbers += b.cells as u64;
+    count.zeros += pairs().filter(|(&x, &y)| x == y && !same_bits(x, y)).count() as u64;
+    number == 0 && same_bits(quotient, inv_ds(&path)) && pairs().all(|(&x, &y)| alike(x, y))
 }
 
-fn refusal_is_like(b: &Build, expected: u32) -> bool {
+fn count_refusal(count: &mut Count, b: &Build, expected: u32) -> bool {
     let (number, after, before, quotient) = run(b);
-    number == expected && unchanged(&after, &before) && same_bits(quotient, UNSET)
+    count.numbers += after.len() as u64 + 1;
+    // the questions that the Rust asks too, where none that it does not ask comes before
+    let asked = match expected {
+        302 => b.order < 3 || b.order.is_multiple_of(2),
+        303 | 304 => true,
+        _ => false,
+    };
+    let rust = asked.then(|| rust_number(b)).flatten();
+    number == expected
+        && rust.is_none_or(|number| number == expected)
+        && same_bits(quotient, UNSET)
+        && after.iter().zip(&before).all(|(&x, &y)| same_bits(x, y))
 }
 
 fn describe(b: &Build) -> String {
@@ -250,82 +225,56 @@ fn describe(b: &Build) -> String {
     )
 }
 
-fn compare(count: u64) {
+/// What a build's expected numbers rest on.
+const SOURCES: [(&str, &str); 3] = [
+    ("builds, order 3", "the Rust text, where solving is one division"),
+    ("builds, orders 5 and 7, two points", "the Rust text"),
+    ("builds, orders 5 and 7, more points", "the Rust text, solving as document 01 has it"),
+];
+
+/// Every order with every count of points and axes; then so many calls at random, half of them to be refused.
+pub fn compare(count: u64) {
     let mut random = Random(0x6a09_e667_f3bc_c909);
-    let mut builds: BTreeMap<&str, Count> = BTreeMap::new();
-    let mut refusals: BTreeMap<u32, Count> = BTreeMap::new();
-    let (mut rust_refuses, mut shown) = (0, 0);
-    for trial in 0..count {
-        let b = if trial % 2 == 0 { served(&mut random) } else { doubtful(&mut random, trial / 2) };
+    let mut builds = SOURCES.map(|_| Count::default());
+    let mut refusals = Refusals::default();
+    let mut shown = 0;
+    let mut call = |b: Build| {
         let expected = b.number();
-        let (entry, cells, like) = if expected == 0 {
-            let name = match (b.order, b.points) {
-                (3, _) => "order 3",
-                (_, 2) => "orders 5 and 7, two points",
-                _ => "orders 5 and 7, more points, over the stand-in's solving",
-            };
-            (builds.entry(name).or_default(), b.cells as u64, build_is_like(&b))
-        } else {
-            let mut like = refusal_is_like(&b, expected);
-            // the questions that the Rust asks too, where none that it does not ask comes before
-            let asked = match expected {
-                302 => b.order < 3 || b.order % 2 == 0,
-                303 | 304 => true,
-                _ => false,
-            };
-            if let Some(number) = asked.then(|| rust_number(&b)).flatten() {
-                like &= number == expected;
-                rust_refuses += 1;
-            }
-            (refusals.entry(expected).or_default(), 0, like)
+        let entry = match (expected, b.order, b.points) {
+            (0, 3, _) => &mut builds[0],
+            (0, _, 2) => &mut builds[1],
+            (0, _, _) => &mut builds[2],
+            _ => refusals.of(expected),
         };
         entry.calls += 1;
-        entry.cells += cells;
+        let like = if expected == 0 { count_build(entry, &b) } else { count_refusal(entry, &b, expected) };
         if !like {
             entry.unlike += 1;
             shown += 1;
             if shown <= 5 {
-                println!("unlike: expected {expected}, {} from {}", run(&b).0, describe(&b));
+                eprintln!("unlike: expected {expected}, {} from {}", run(&b).0, describe(&b));
+            }
+        }
+    };
+    for order in [3, 5, 7] {
+        for points in 2..=257 {
+            for axes in 1..=8 {
+                call(Build::random(&mut random, order, points, axes));
             }
         }
     }
-    let mut all = Count::default();
-    for (name, c) in &builds {
-        println!("{name}: {} builds, {} coefficients, {} builds unlike", c.calls, c.cells, c.unlike);
-        all.calls += c.calls;
-        all.cells += c.cells;
-        all.unlike += c.unlike;
+    for trial in 0..count {
+        call(if trial % 2 == 0 { served(&mut random) } else { doubtful(&mut random) });
     }
-    println!("all: {} builds, {} coefficients, {} builds unlike", all.calls, all.cells, all.unlike);
-    let by_number: Vec<String> = refusals.iter().map(|(number, c)| format!("{} with {number}", c.calls)).collect();
-    let (calls, unlike) = refusals.values().fold((0, 0), |(calls, unlike), c| (calls + c.calls, unlike + c.unlike));
-    println!(
-        "{calls} refusals ({}), {unlike} unlike; {rust_refuses} of them the Rust refuses too, for the same reason",
-        by_number.join(", ")
-    );
+    for ((what, against), count) in SOURCES.iter().zip(&builds) {
+        count.print_zeros(what, against);
+    }
+    refusals.print("refused builds", "document 01's questions as plain tests, and the Rust text where it asks them");
 }
 
 // ---- time
 
-/// Nanoseconds a call: the best of many rounds, each as many calls as take some two milliseconds.
-fn best(mut call: impl FnMut()) -> f64 {
-    let start = Instant::now();
-    call();
-    let calls = (2e-3 / start.elapsed().as_secs_f64()).clamp(1.0, 20000.0) as u32;
-    let mut least = f64::MAX;
-    for _ in 0..40 {
-        let start = Instant::now();
-        for _ in 0..calls {
-            call();
-        }
-        least = least.min(start.elapsed().as_secs_f64() * 1e9 / calls as f64);
-    }
-    least
-}
-
-fn time() {
-    println!("nanoseconds a build, states given; the Rust with the stand-in for nalgebra, on one thread");
-    println!("order points axes        ours  a point and axis        Rust  a point and axis");
+pub fn time() {
     let mut random = Random(0xbb67_ae85_84ca_a73b);
     for order in [3, 5, 7] {
         for points in [2, 16, 257] {
@@ -337,11 +286,16 @@ fn time() {
                 assert_eq!(b.number(), 0);
                 let mut cells = vec![0.0; b.cells];
                 let mut quotient = 0.0;
-                let here = best(|| assert_eq!(ours(black_box(&b), &mut cells, &mut quotient), 0));
+                let mut here = |_| assert_eq!(ours(black_box(&b), &mut cells, &mut quotient), 0);
                 let (waypoints, config) = b.in_rust();
-                let there = best(|| drop(black_box(SplinePath::from_waypoints(black_box(&waypoints), &config))));
-                let each = (points * axes) as f64;
-                println!("{order:5} {points:6} {axes:4} {here:11.0} {:17.1} {there:11.0} {:17.1}", here / each, there / each);
+                let there = |_| drop(black_box(SplinePath::from_waypoints(black_box(&waypoints), &config)));
+                // as many calls a round as take the Rust some two milliseconds
+                let start = Instant::now();
+                there(0);
+                let calls = (2e-3 / start.elapsed().as_secs_f64()).clamp(1.0, 20000.0) as usize;
+                here(0);
+                let (here, there) = best(60, calls, here, there);
+                print_time(&format!("build, order {order}, {points} points, {}", counted(axes, "axis", "axes")), here, there);
             }
         }
     }
@@ -354,7 +308,7 @@ fn bits_sum(list: &[f64]) -> u64 {
 }
 
 /// The builds of crates/build_pieces, by the Rust: coefficients, inv_ds and the sum of all bits.
-fn pieces() {
+pub fn pieces() {
     let none = || State { given: None, numbers: vec![] };
     let given =
         |axes: usize, marked: bool, numbers: &[f64]| State { given: Some((axes, numbers.len() / axes, marked)), numbers: numbers.to_vec() };
@@ -381,15 +335,5 @@ fn pieces() {
     let line: Vec<f64> = (0..257).map(f64::from).collect();
     for order in [3, 5, 7] {
         piece(&format!("o, 257 points, order {order}"), order, 1, &line, none(), none(), 1.0);
-    }
-}
-
-fn main() {
-    let words: Vec<String> = std::env::args().skip(1).collect();
-    match words.iter().map(String::as_str).collect::<Vec<_>>().as_slice() {
-        ["compare", count] => compare(count.parse().expect("a count")),
-        ["time"] => time(),
-        ["pieces"] => pieces(),
-        _ => panic!("compare COUNT, time or pieces"),
     }
 }

@@ -1,23 +1,13 @@
-//! The fused multiply-add of the static library against `f64::mul_add`. `compare/fused` builds and
-//! runs it.
+//! The fused multiply-add against `f64::mul_add`.
 //!
-//!   fused list             prints the list that crates/fused_vectors replays in the gate
-//!   fused compare COUNT    compares COUNT generated triples, by family
-//!   fused time             times both, over operands as a query has them and over a hard mix
-//!
-//! Expected bits come from `f64::mul_add` with the processor's own instruction: the program refuses to
-//! run without it. A NaN equals every NaN; all else is compared bit for bit.
+//! Expected bits come from `f64::mul_add` with the processor's own instruction: the program refuses to run without
+//! it. A NaN equals every NaN; all else is compared bit for bit.
 
-use random::Random;
+use crate::library::raw::spline_mul_add;
+use crate::random::Random;
+use crate::rows::{print_time, same_bits, Count};
 use std::hint::black_box;
 use std::time::Instant;
-
-mod random;
-
-#[link(name = "capi", kind = "static")]
-extern "C" {
-    fn spline_mul_add(a: f64, b: f64, c: f64) -> f64;
-}
 
 type Triple = (f64, f64, f64);
 
@@ -164,13 +154,15 @@ fn expected(a: f64, b: f64, c: f64) -> f64 {
     a.mul_add(b, c)
 }
 
-fn same(x: f64, y: f64) -> bool {
-    x.to_bits() == y.to_bits() || x.is_nan() && y.is_nan()
+/// So that `expected` may be called.
+fn look_at_the_processor() {
+    assert!(is_x86_feature_detected!("fma"), "a processor without a fused multiply-add");
 }
 
-fn list() {
+pub fn list() {
+    look_at_the_processor();
     let line = |(a, b, c): Triple| {
-        // SAFETY: main has seen that the processor has the instruction.
+        // SAFETY: the processor has the instruction, as was just seen.
         let r = unsafe { expected(a, b, c) };
         let bits = |x: f64| if x.is_nan() { f64::NAN.to_bits() } else { x.to_bits() };
         println!("{:016x} {:016x} {:016x} {:016x}", bits(a), bits(b), bits(c), bits(r));
@@ -191,27 +183,26 @@ fn list() {
     }
 }
 
-fn compare(count: u64) {
-    let (mut seen, mut unlike) = (0, 0);
-    for family in 0..FAMILIES.len() {
+pub fn compare(count: u64) {
+    look_at_the_processor();
+    let mut all = Count::default();
+    for (family, name) in FAMILIES.iter().enumerate() {
         let mut random = Random(0x1234_5678_9abc_def1 + family as u64);
-        let (mut here, each) = (0, count.div_ceil(FAMILIES.len() as u64));
-        for n in 0..each {
+        for n in 0..count / FAMILIES.len() as u64 {
             let (a, b, c) = triple(family, n, &mut random);
             // SAFETY: as in `list`; the library's function takes any floats.
             let (r, e) = unsafe { (spline_mul_add(a, b, c), expected(a, b, c)) };
-            if !same(r, e) {
-                here += 1;
-                if here <= 3 {
-                    println!("{a:e} {b:e} {c:e}: {r:e}, expected {e:e}");
+            all.calls += 1;
+            if !same_bits(r, e) {
+                all.unlike += 1;
+                if all.unlike <= 5 {
+                    eprintln!("unlike, {name}: {a:e} {b:e} {c:e}: {r:e}, expected {e:e}");
                 }
             }
         }
-        println!("{:20} {each} triples, {here} unlike", FAMILIES[family]);
-        seen += each;
-        unlike += here;
     }
-    println!("{:20} {seen} triples, {unlike} unlike", "all");
+    all.numbers = all.calls;
+    all.print(&format!("fused multiply-adds, {} families in equal parts", FAMILIES.len()), "the processor's instruction");
 }
 
 /// Nanoseconds a call: the best of many rounds, each over more triples than a branch predictor learns.
@@ -267,7 +258,8 @@ fn native(triples: &[Triple], plain: bool) -> (f64, f64) {
     (if plain { chain(triples, f) } else { sign_chain(triples, f) }, independent(triples, f))
 }
 
-fn time() {
+pub fn time() {
+    look_at_the_processor();
     const N: usize = 1 << 17;
     let mut random = Random(0x0dd0_5eed_0dd0_5eed);
     let sets: [(&str, bool, Vec<Triple>); 3] = [
@@ -275,7 +267,6 @@ fn time() {
         ("each exponent within ±30", false, (0..N).map(|_| spread(&mut random)).collect()),
         ("hard mix", false, (0..N).map(|n| triple(n % FAMILIES.len(), n as u64, &mut random)).collect()),
     ];
-    println!("nanoseconds a call        chain: ours default native  ratio  independent: ours default native  ratio");
     for (name, plain, triples) in &sets {
         // SAFETY: as in `compare`.
         let ours = |a, b, c| unsafe { spline_mul_add(a, b, c) };
@@ -287,17 +278,9 @@ fn time() {
             (sign_chain(triples, ours), sign_chain(triples, default))
         };
         let (nc, ni) = unsafe { native(triples, *plain) };
-        println!("{name:25} {oc:11.2} {dc:7.2} {nc:6.2} {:6.2} {oi:18.2} {di:7.2} {ni:6.2} {:6.2}", oc / dc, oi / di);
-    }
-}
-
-fn main() {
-    assert!(is_x86_feature_detected!("fma"), "a processor without a fused multiply-add");
-    let words: Vec<String> = std::env::args().skip(1).collect();
-    match words.iter().map(String::as_str).collect::<Vec<_>>().as_slice() {
-        ["list"] => list(),
-        ["compare", count] => compare(count.parse().expect("a count")),
-        ["time"] => time(),
-        _ => panic!("list, compare COUNT or time"),
+        for (how, ours, default, native) in [("independent", oi, di, ni), ("in a chain", oc, dc, nc)] {
+            print_time(&format!("fused, {name}, {how}"), ours, default);
+            print_time(&format!("fused, {name}, {how}, Rust built for this processor"), ours, native);
+        }
     }
 }

@@ -60,6 +60,9 @@ impl Random {
 
 pub const NOT_FINITE: [f64; 3] = [f64::NAN, f64::INFINITY, f64::NEG_INFINITY];
 
+/// Counts that no list has.
+pub const HUGE: [usize; 5] = [1 << 16, 1 << 32, 1 << 61, 1 << 63, usize::MAX];
+
 /// Question 8 of document 01, and the quotient that it asks about.
 pub fn range(segments: usize, s_min: f64, s_max: f64) -> Option<f64> {
     let inv_ds = segments as f64 / (s_max - s_min);

@@ -1,38 +1,16 @@
-//! The master check of the static library against exact whole numbers. `compare/masters` builds and runs it.
-//!
-//!   masters vectors         prints the list that crates/master_vectors replays in the gate
-//!   masters compare COUNT   compares COUNT generated calls: good sets, damaged ones, and refusals of every kind
-//!   masters time            times it, beside the same check written in Rust
+//! The master check against exact whole numbers.
 //!
 //! The Rust of copp has no such check. An expected answer comes from document 01's questions and equations as plain tests
 //! over i128 (`Set::answer` of set.rs). A set that is to be good is made in one of three ways, and its table is then solved
 //! for anew from its points and states, in exact arithmetic by document 01's tables (exact.rs): it has to come out the same.
 
-use random::Random;
-use set::{binomial, Set, LIMIT};
-use std::collections::BTreeMap;
+use crate::asked::first_no;
+use crate::exact;
+use crate::library::raw::spline_check_master;
+use crate::random::Random;
+use crate::rows::{best, counted, print_time, Count, Refusals, GUARD};
+use crate::set::{binomial, Set, LIMIT};
 use std::hint::black_box;
-use std::time::Instant;
-
-mod asked;
-mod exact;
-mod random;
-mod set;
-
-#[link(name = "capi", kind = "static")]
-extern "C" {
-    fn spline_check_master(
-        order: usize,
-        waypoints: *const i64,
-        waypoint_count: usize,
-        start: *const i64,
-        start_count: usize,
-        end: *const i64,
-        end_count: usize,
-        table: *const i64,
-        table_count: usize,
-    ) -> u32;
-}
 
 fn ours(order: usize, [waypoints, start, end, table]: [&[i64]; 4]) -> u32 {
     // SAFETY: each pointer comes with the length of its list, and the function takes any numbers and writes nothing.
@@ -161,7 +139,7 @@ fn print(random: &mut Random, set: &Set) {
     }
 }
 
-fn vectors() {
+pub fn vectors() {
     let mut random = Random(0x9b05_688c_2b3e_6c1f);
     for order in ORDERS {
         for points in [2, 2, 3, 3, 3, 4, 4, 5, 5, 6, 7, 9, 16, 33, 64, 129, 255, 256, 257] {
@@ -179,12 +157,11 @@ fn vectors() {
 
 const CHANGES: u64 = 16;
 
+/// One more or less, or some.
 fn change_length(random: &mut Random, list: &mut Vec<i64>) {
-    if random.one_in(2) {
-        list.push(random.between(-9, 9));
-    } else {
-        list.pop();
-    }
+    let by = random.pick(&[1, 1, 2, 3, 8]);
+    let length = if random.one_in(2) { list.len() + by } else { list.len().saturating_sub(by) };
+    list.resize_with(length, || random.between(-9, 9));
 }
 
 /// Something in a set is changed. What the answer then is, is not said here.
@@ -226,7 +203,7 @@ fn change(random: &mut Random, set: &mut Set, which: u64) {
         12 => change_length(random, &mut set.table),
         // at a limit of the points or one beyond, the table as long as it would have to be
         13 => {
-            let points = random.pick(&[0, 1, 2, 256, 257, 258, 300]);
+            let points = random.pick(&[0, 1, 2, 3, 255, 256, 257, 258, 259, 300]);
             set.waypoints.resize(points, 0);
             let cells = points.saturating_sub(1).saturating_mul(set.order.saturating_add(1)).min(4096);
             set.table.resize(cells, 0);
@@ -244,8 +221,6 @@ fn change(random: &mut Random, set: &mut Set, which: u64) {
     }
 }
 
-const GUARD: usize = 8;
-
 /// A list with numbers on both sides of it, which no rule would take for its own.
 fn guarded(list: &[i64]) -> Vec<i64> {
     let guard = [0x4bad_cafe_4bad_cafe; GUARD];
@@ -260,9 +235,9 @@ fn checked(set: &Set) -> Option<u32> {
     (before == lent).then_some(answer)
 }
 
-fn compare(count: u64) {
+pub fn compare(count: u64) {
     let mut random = Random(0x1f83_d9ab_fb41_bd6b);
-    let mut answers: BTreeMap<u32, (u64, u64)> = BTreeMap::new();
+    let (mut no, mut yes, mut refusals) = (Count::default(), Count::default(), Refusals::default());
     let mut base = good(&mut random, 3, 1);
     for trial in 0..count {
         if trial % 32 == 0 {
@@ -285,25 +260,26 @@ fn compare(count: u64) {
             change(&mut random, &mut set, which);
         }
         let expected = set.answer();
-        let entry = answers.entry(expected).or_default();
-        entry.0 += 1;
         let answer = checked(&set);
+        let entry = match expected {
+            0 => &mut no,
+            1 => &mut yes,
+            number => refusals.of(number),
+        };
+        entry.calls += 1;
+        // the answer; and of a refusal every cell that was lent
+        entry.numbers += if expected < 2 { 1 } else { size(&set) as u64 };
         if answer != Some(expected) {
-            entry.1 += 1;
-            let lengths = set.lists().map(|list| list.len());
-            println!("unlike: expected {expected}, {answer:?} from order {}, lengths {lengths:?}, {:?}", set.order, &set.lists()[..3]);
+            entry.unlike += 1;
+            if entry.unlike <= 5 {
+                let lengths = set.lists().map(|list| list.len());
+                eprintln!("unlike: expected {expected}, {answer:?} from order {}, lengths {lengths:?}, {:?}", set.order, &set.lists()[..3]);
+            }
         }
     }
-    let name = |answer: u32| match answer {
-        0 => "no".to_string(),
-        1 => "yes".to_string(),
-        number => format!("refused with {number}"),
-    };
-    for (&answer, (calls, unlike)) in &answers {
-        println!("{}: {calls} calls, {unlike} unlike", name(answer));
-    }
-    let (calls, unlike) = answers.values().fold((0, 0), |sum, n| (sum.0 + n.0, sum.1 + n.1));
-    println!("{calls} calls, {unlike} unlike");
+    yes.print("master checks that say yes", "document 01's equations over exact whole numbers");
+    no.print("master checks that say no", "document 01's equations over exact whole numbers");
+    refusals.print("refused master checks", "document 01's questions as plain tests");
 }
 
 // ---- time
@@ -329,7 +305,7 @@ fn plain<const CELLS: usize>([waypoints, start, end, table]: [&[i64]; 4]) -> u32
         (start.len() == m && end.len() == m, 303),
         (table.len() == waypoints.len().saturating_sub(1) * CELLS, 2),
     ];
-    let number = asked::first_no(&questions);
+    let number = first_no(&questions);
     if number != 0 {
         return number;
     }
@@ -359,43 +335,16 @@ fn in_rust(order: usize, lists: [&[i64]; 4]) -> u32 {
     }
 }
 
-/// Nanoseconds a call of each of two: the best of many rounds, taken in turn.
-fn best(calls: u32, mut here: impl FnMut() -> u32, mut there: impl FnMut() -> u32) -> (f64, f64) {
-    let round = |call: &mut dyn FnMut() -> u32| {
-        let start = Instant::now();
-        for _ in 0..calls {
-            assert_eq!(call(), 1);
-        }
-        start.elapsed().as_secs_f64() * 1e9 / f64::from(calls)
-    };
-    let mut least = (f64::MAX, f64::MAX);
-    for _ in 0..200 {
-        least = (least.0.min(round(&mut here)), least.1.min(round(&mut there)));
-    }
-    least
-}
-
-fn time() {
-    println!("nanoseconds a check that says yes");
-    println!("order segments     ours a segment     Rust    ratio");
+pub fn time() {
     let mut random = Random(0x5be0_cd19_137e_2179);
     for order in ORDERS {
         for segments in [1, 16, 64, 256] {
             let set = good(&mut random, order, segments);
             let lists = set.lists().map(|list| &list[..]);
-            let calls = 1 + 20_000 / segments as u32;
-            let (here, there) = best(calls, || ours(order, black_box(lists)), || in_rust(black_box(order), black_box(lists)));
-            println!("{order:5} {segments:8} {here:8.1} {:9.1} {there:8.1} {:8.2}", here / segments as f64, here / there);
+            let here = |_| assert_eq!(ours(order, black_box(lists)), 1);
+            let there = |_| assert_eq!(in_rust(black_box(order), black_box(lists)), 1);
+            let (here, there) = best(200, 1 + 20_000 / segments, here, there);
+            print_time(&format!("check, order {order}, {}", counted(segments, "segment", "segments")), here, there);
         }
-    }
-}
-
-fn main() {
-    let words: Vec<String> = std::env::args().skip(1).collect();
-    match words.iter().map(String::as_str).collect::<Vec<_>>().as_slice() {
-        ["vectors"] => vectors(),
-        ["compare", count] => compare(count.parse().expect("a count")),
-        ["time"] => time(),
-        _ => panic!("vectors, compare COUNT or time"),
     }
 }

@@ -1,8 +1,4 @@
-//! The query of the static library against the Rust text of copp. `compare/queries` builds and runs it.
-//!
-//!   queries vectors COUNT   prints the list that crates/query_vectors replays in the gate
-//!   queries compare COUNT   compares COUNT generated calls: queries, and refusals of every kind
-//!   queries time            times both
+//! The query against the Rust text of copp.
 //!
 //! A query's expected numbers come from the Rust text, over a path of the same record and table. It does
 //! not look whether s is in the range: in Clamp it is given the nearest end, as document 01 says. A
@@ -10,50 +6,13 @@
 //! query.rs). NaNs are alike, and the two zeros are alike, though those of another sign are counted; all
 //! else is compared bit for bit.
 
-use input::{diag, path, range, Build, NOT_FINITE};
-use query::Query;
-use random::Random;
-use spline::{coefficients, eval_poly, path_of, segment_tau, SplinePath};
-use std::collections::BTreeMap;
+use crate::input::{range, Build, HUGE, NOT_FINITE};
+use crate::library::raw::spline_query;
+use crate::query::Query;
+use crate::random::Random;
+use crate::rows::{alike, best, counted, guarded, lent, print_time, same_bits, Count, Refusals, GUARD};
+use crate::spline::{coefficients, eval_poly, path_of, segment_tau, SplinePath};
 use std::hint::black_box;
-use std::time::Instant;
-
-mod asked;
-// (Nothing here damages a build.)
-#[allow(dead_code)]
-mod input;
-mod query;
-mod random;
-
-// The text of src/path/spline.rs, unchanged, with functions after it that hand out the coefficients, make a
-// path of given fields, and call the lookup and the evaluation.
-#[allow(dead_code)]
-mod spline;
-
-#[link(name = "capi", kind = "static")]
-extern "C" {
-    fn spline_query(
-        order: usize,
-        segments: usize,
-        axes: usize,
-        s_min: f64,
-        s_max: f64,
-        inv_ds: f64,
-        mode: u8,
-        coefficients: *const f64,
-        coefficient_count: usize,
-        s: f64,
-        level: u8,
-        q: *mut f64,
-        q_count: usize,
-        dq: *mut f64,
-        dq_count: usize,
-        ddq: *mut f64,
-        ddq_count: usize,
-        dddq: *mut f64,
-        dddq_count: usize,
-    ) -> u32;
-}
 
 /// The four buffers: positions, first, second and third derivatives.
 type Buffers<T> = [T; 4];
@@ -99,10 +58,6 @@ fn theirs(path: &SplinePath, s: f64, level: usize, [q, dq, ddq, dddq]: Buffers<&
 
 fn in_rust(q: &Query, table: &[f64]) -> SplinePath {
     path_of(q.order, q.segments, q.s_min, q.s_max, q.inv_ds, table.to_vec())
-}
-
-fn same_bits(x: f64, y: f64) -> bool {
-    x.to_bits() == y.to_bits() || x.is_nan() && y.is_nan()
 }
 
 /// Whether a level writes derivative k.
@@ -262,7 +217,7 @@ fn numbers(path: &SplinePath, q: &Query, s: f64) -> Buffers<Vec<f64>> {
 /// A line for each path: order, segments, axes, how many coefficients and of which kind, mode, seed, s_min, s_max and
 /// inv_ds. Under it eight lines, each with an s, and the position, first, second and third derivative there, each
 /// axis by axis, which stand for a query of each level. All numbers are hexadecimal, and floats are their bits.
-fn vectors(count: u64) {
+pub fn vectors(count: u64) {
     let bits = |x: f64| format!("{:016x}", if x.is_nan() { f64::NAN.to_bits() } else { x.to_bits() });
     let mut random = Random(0x3c6e_f372_fe94_f82b);
     for n in 0..count.div_ceil(LEVELS.len() as u64 * PLACES) {
@@ -292,32 +247,40 @@ fn vectors(count: u64) {
 
 const COUNTS: u64 = 9;
 
-/// One more or one less of what is counted.
-fn step(q: &mut Query, which: u64, up: bool) {
-    let count = match which {
+fn count_of(q: &mut Query, which: u64) -> &mut usize {
+    match which {
         0 => &mut q.order,
         1 => &mut q.segments,
         2 => &mut q.axes,
         3 => &mut q.cells,
         4 => &mut q.level,
         k => &mut q.lengths[k as usize - 5],
-    };
-    *count = if up { *count + 1 } else { count.saturating_sub(1) };
+    }
+}
+
+/// One more or less of what is counted, or some.
+fn step(random: &mut Random, q: &mut Query, which: u64) {
+    let (up, by) = (random.one_in(2), random.pick(&[1, 1, 2, 3, 8]));
+    let count = count_of(q, which);
+    *count = if up { *count + by } else { count.saturating_sub(by) };
     q.level = q.level.min(255); // it travels as a byte
 }
 
 /// Something that is to be refused; some of it is served all the same, and counts as a query.
-fn doubtful(random: &mut Random, trial: u64) -> Query {
+fn doubtful(random: &mut Random) -> Query {
     let mut q = served(random);
-    match trial % 8 {
-        // at a limit or one beyond, the lists as long as they would have to be
+    match random.below(9) {
+        // round the limits, the lists as long as they would have to be
         0 | 1 => {
-            let order = 2 + random.below(7) as usize;
-            let segments = random.pick(&[0, 1, 2, 256, 257]);
-            let axes = random.pick(&[0, 1, 8, 9]);
+            let order = random.below(11) as usize;
+            let segments = random.pick(&[0, 1, 2, 255, 256, 257, 258, 264]);
+            let axes = random.pick(&[0, 1, 2, 7, 8, 9, 10]);
             q = matching(random, order, segments, axes);
         }
-        2 | 3 => step(&mut q, random.below(COUNTS), trial % 16 < 8),
+        2 | 3 => {
+            let which = random.below(COUNTS);
+            step(random, &mut q, which);
+        }
         // any lengths at all
         4 => {
             q.lengths = q.lengths.map(|n| if random.one_in(3) { random.below(12) as usize } else { n });
@@ -331,11 +294,14 @@ fn doubtful(random: &mut Random, trial: u64) -> Query {
             }
         }
         6 => q.damage(random.below(Query::DAMAGES as u64) as usize),
+        // order, segments or axes
+        7 => *count_of(&mut q, random.below(3)) = random.pick(&HUGE),
         // two things at once: the earlier question's number has to come
         _ => {
             q.damage(random.below(Query::DAMAGES as u64) as usize);
             if random.one_in(2) {
-                step(&mut q, random.below(COUNTS), random.one_in(2));
+                let which = random.below(COUNTS);
+                step(random, &mut q, which);
             } else {
                 q.damage(random.below(Query::DAMAGES as u64) as usize);
             }
@@ -353,31 +319,12 @@ fn table(random: &mut Random, q: &Query) -> Vec<f64> {
     coefficients(&Build::random(random, q.order, q.segments + 1, q.axes).path().expect("the Rust builds it")).to_vec()
 }
 
-const GUARD: usize = 16;
-
-/// A buffer with cells on both sides of it, of which no two are alike.
-fn pattern(k: usize, length: usize) -> Vec<f64> {
-    (0..(length + 2 * GUARD) as u64).map(|i| f64::from_bits(0x4bad_0000_0000_0000 + (k as u64) * 0x1_0000 + i)).collect()
-}
-
-/// A call of ours: its number, and the buffers before and after it.
+/// A call of ours: its number, and the buffers with their guard cells before and after it.
 fn run(q: &Query, mode: u8, table: &[f64]) -> (u32, Buffers<Vec<f64>>, Buffers<Vec<f64>>) {
-    let before = [0, 1, 2, 3].map(|k| pattern(k, q.lengths[k]));
+    let before = [0, 1, 2, 3].map(|k| guarded(k, q.lengths[k]));
     let mut after = before.clone();
-    let lent = after.each_mut().map(|list| {
-        let end = list.len() - GUARD;
-        &mut list[GUARD..end]
-    });
-    let number = ours(q, mode, table, lent);
+    let number = ours(q, mode, table, after.each_mut().map(|list| lent(list)));
     (number, before, after)
-}
-
-#[derive(Default)]
-struct Count {
-    calls: u64,
-    numbers: u64,
-    unlike: u64,
-    zeros: u64,
 }
 
 /// Counts a call that is served: every number that the level writes, and every other cell.
@@ -391,14 +338,15 @@ fn count_query(count: &mut Count, q: &Query, mode: u8, table: &[f64]) -> bool {
         count.numbers += q.axes as u64;
     }
     let pairs = || expected.iter().flatten().zip(after.iter().flatten());
-    let alike = |&(x, y): &(&f64, &f64)| x == y || same_bits(*x, *y);
-    count.zeros += pairs().filter(|pair| alike(pair) && !same_bits(*pair.0, *pair.1)).count() as u64;
-    number == 0 && pairs().all(|pair| alike(&pair))
+    count.zeros += pairs().filter(|(&x, &y)| x == y && !same_bits(x, y)).count() as u64;
+    number == 0 && pairs().all(|(&x, &y)| alike(x, y))
 }
 
-fn refusal_is_like(q: &Query, mode: u8, table: &[f64], expected: u32) -> bool {
+fn count_refusal(count: &mut Count, q: &Query, mode: u8, table: &[f64], expected: u32) -> bool {
     let (number, before, after) = run(q, mode, table);
-    number == expected && before.iter().flatten().zip(after.iter().flatten()).all(|(&x, &y)| same_bits(x, y))
+    let pairs = || before.iter().flatten().zip(after.iter().flatten());
+    count.numbers += pairs().count() as u64;
+    number == expected && pairs().all(|(&x, &y)| same_bits(x, y))
 }
 
 fn describe(q: &Query) -> String {
@@ -408,69 +356,46 @@ fn describe(q: &Query) -> String {
     )
 }
 
-fn compare(count: u64) {
+/// So many calls at random, half of them to be refused.
+pub fn compare(count: u64) {
     let mut random = Random(0xa54f_f53a_5f1d_36f1);
-    let mut queries: BTreeMap<(usize, usize), Count> = BTreeMap::new();
-    let mut refusals: BTreeMap<u32, Count> = BTreeMap::new();
+    let mut queries = ORDERS.map(|_| Count::default());
+    let mut refusals = Refusals::default();
     let mut shown = 0;
     for trial in 0..count {
-        let q = if trial % 2 == 0 { served(&mut random) } else { doubtful(&mut random, trial / 2) };
+        let q = if trial % 2 == 0 { served(&mut random) } else { doubtful(&mut random) };
         let table = table(&mut random, &q);
         // every number but 1 is Error
         let mode = if q.clamp { 1 } else { random.pick(&[0, 0, 0, 2, 255]) };
         let expected = q.number();
         let (entry, like) = if expected == 0 {
-            let entry = queries.entry((q.order, q.level)).or_default();
+            let entry = &mut queries[(q.order - 3) / 2];
             let like = count_query(entry, &q, mode, &table);
             (entry, like)
         } else {
-            (refusals.entry(expected).or_default(), refusal_is_like(&q, mode, &table, expected))
+            let entry = refusals.of(expected);
+            let like = count_refusal(entry, &q, mode, &table, expected);
+            (entry, like)
         };
         entry.calls += 1;
         if !like {
             entry.unlike += 1;
             shown += 1;
             if shown <= 5 {
-                println!("unlike: expected {expected}, {} from {}", run(&q, mode, &table).0, describe(&q));
+                eprintln!("unlike: expected {expected}, {} from {}", run(&q, mode, &table).0, describe(&q));
             }
         }
     }
-    let mut all = Count::default();
-    for ((order, level), c) in &queries {
-        println!("order {order}, level {level}: {} queries, {} numbers, {} queries unlike", c.calls, c.numbers, c.unlike);
-        all.calls += c.calls;
-        all.numbers += c.numbers;
-        all.unlike += c.unlike;
-        all.zeros += c.zeros;
+    for (order, count) in ORDERS.iter().zip(&queries) {
+        count.print_zeros(&format!("queries, order {order}"), "the Rust's own eval_at");
     }
-    println!("all: {} queries, {} numbers, {} queries unlike; {} zeros of another sign", all.calls, all.numbers, all.unlike, all.zeros);
-    let by_number: Vec<String> = refusals.iter().map(|(number, c)| format!("{} with {number}", c.calls)).collect();
-    let (calls, unlike) = refusals.values().fold((0, 0), |(calls, unlike), c| (calls + c.calls, unlike + c.unlike));
-    println!("{calls} refusals ({}), {unlike} unlike", by_number.join(", "));
-    println!("{} calls, {} unlike", all.calls + calls, all.unlike + unlike);
+    refusals.print("refused queries", "document 01's questions as plain tests");
 }
 
 // ---- time
 
-/// Nanoseconds a call of each of two: the best of many rounds, taken in turn, each of a call for every s.
-fn best(places: &[f64], mut here: impl FnMut(f64), mut there: impl FnMut(f64)) -> (f64, f64) {
-    let round = |call: &mut dyn FnMut(f64)| {
-        let start = Instant::now();
-        for &s in places {
-            call(black_box(s));
-        }
-        start.elapsed().as_secs_f64() * 1e9 / places.len() as f64
-    };
-    let mut least = (f64::MAX, f64::MAX);
-    for _ in 0..200 {
-        least = (least.0.min(round(&mut here)), least.1.min(round(&mut there)));
-    }
-    least
-}
-
-fn time() {
-    println!("nanoseconds a query, 64 segments, s at random in the range");
-    println!("order level axes     ours     Rust    ratio");
+/// 64 segments, s at random in the range.
+pub fn time() {
     let mut random = Random(0x510e_527f_ade6_82d1);
     for order in ORDERS {
         for level in LEVELS {
@@ -482,27 +407,16 @@ fn time() {
                 let places: Vec<f64> = (0..1 << 12).map(|_| random.unit()).collect();
                 let mut out: Buffers<Vec<f64>> = [0, 1, 2, 3].map(|_| vec![0.0; axes]);
                 let mut other = out.clone();
-                let (here, there) = best(
-                    &places,
-                    |s| {
-                        q.s = s;
-                        assert_eq!(ours(black_box(&q), 0, &table, out.each_mut().map(|list| &mut list[..])), 0);
-                    },
-                    |s| theirs(black_box(&path), s, black_box(level), other.each_mut().map(|list| &mut list[..])),
-                );
+                let here = |i: usize| {
+                    q.s = black_box(places[i]);
+                    assert_eq!(ours(black_box(&q), 0, &table, out.each_mut().map(|list| &mut list[..])), 0);
+                };
+                let there =
+                    |i: usize| theirs(black_box(&path), black_box(places[i]), black_box(level), other.each_mut().map(|list| &mut list[..]));
+                let (here, there) = best(200, places.len(), here, there);
                 assert!(out.iter().flatten().zip(other.iter().flatten()).all(|(&x, &y)| same_bits(x, y)));
-                println!("{order:5} {level:5} {axes:4} {here:8.1} {there:8.1} {:8.2}", here / there);
+                print_time(&format!("query, order {order}, level {level}, {}", counted(axes, "axis", "axes")), here, there);
             }
         }
-    }
-}
-
-fn main() {
-    let words: Vec<String> = std::env::args().skip(1).collect();
-    match words.iter().map(String::as_str).collect::<Vec<_>>().as_slice() {
-        ["vectors", count] => vectors(count.parse().expect("a count")),
-        ["compare", count] => compare(count.parse().expect("a count")),
-        ["time"] => time(),
-        _ => panic!("vectors COUNT, compare COUNT or time"),
     }
 }

@@ -1,9 +1,19 @@
 //! A stand-in for the crate nalgebra, which cannot be had here: what the module src/path/spline.rs
 //! of copp names of it, and no more. Factoring and solving follow document 01's rules; products run
 //! left to right with the first product unaccompanied. It is written from that document, so a
-//! comparison through it says nothing about nalgebra's own bits.
+//! comparison through it says nothing about nalgebra's own bits. To see how much such rules decide, it can be
+//! compiled to break one of them: `--cfg 'solving="divided"'`, `"summed"`, `"fused"` or `"inverted"`.
 
 use std::ops::{Add, Index, IndexMut, Mul, Sub, SubAssign};
+
+/// Multipliers are entry over pivot, not entry times the pivot's rounded reciprocal.
+const DIVIDED: bool = cfg!(solving = "divided");
+/// The products to be subtracted from a row are summed first, not subtracted one at a time.
+const SUMMED: bool = cfg!(solving = "summed");
+/// A product and the sum or difference it goes into are rounded once, not apart.
+const FUSED: bool = cfg!(solving = "fused");
+/// The last step multiplies by the pivot's rounded reciprocal and does not divide.
+const INVERTED: bool = cfg!(solving = "inverted");
 
 #[derive(Clone, Debug)]
 pub struct DMatrix<T> {
@@ -154,9 +164,19 @@ impl IndexMut<usize> for DVector<f64> {
     }
 }
 
+/// c + a * b
+fn plus(c: f64, a: f64, b: f64) -> f64 {
+    if FUSED {
+        a.mul_add(b, c)
+    } else {
+        c + a * b
+    }
+}
+
 /// A sum of products, left to right, first product unaccompanied.
-fn dot(terms: impl Iterator<Item = (f64, f64)>) -> f64 {
-    terms.map(|(a, b)| a * b).reduce(|sum, product| sum + product).unwrap_or(0.0)
+fn dot(mut terms: impl Iterator<Item = (f64, f64)>) -> f64 {
+    let first = terms.next().map_or(0.0, |(a, b)| a * b);
+    terms.fold(first, |sum, (a, b)| plus(sum, a, b))
 }
 
 impl Mul<&DMatrix<f64>> for &DMatrix<f64> {
@@ -244,12 +264,11 @@ impl Lu {
             rows.swap(k, pivot);
             let reciprocal = 1.0 / a[(k, k)];
             for i in k + 1..m {
-                a[(i, k)] *= reciprocal;
+                a[(i, k)] = if DIVIDED { a[(i, k)] / a[(k, k)] } else { a[(i, k)] * reciprocal };
             }
             for j in k + 1..m {
                 for i in k + 1..m {
-                    let product = a[(i, k)] * a[(k, j)];
-                    a[(i, j)] -= product;
+                    a[(i, j)] = plus(a[(i, j)], -a[(i, k)], a[(k, j)]);
                 }
             }
         }
@@ -259,15 +278,24 @@ impl Lu {
     fn solve_cells(&self, b: &[f64]) -> Vec<f64> {
         let (a, m) = (&self.factors, self.rows.len());
         let mut x: Vec<f64> = self.rows.iter().map(|&row| b[row]).collect();
+        if SUMMED {
+            for i in 0..m {
+                x[i] -= dot((0..i).map(|k| (a[(i, k)], x[k])));
+            }
+            for i in (0..m).rev() {
+                x[i] = (x[i] - dot((i + 1..m).map(|k| (a[(i, k)], x[k])))) / a[(i, i)];
+            }
+            return x;
+        }
         for k in 0..m {
             for i in k + 1..m {
-                x[i] -= a[(i, k)] * x[k];
+                x[i] = plus(x[i], -a[(i, k)], x[k]);
             }
         }
         for k in (0..m).rev() {
-            x[k] /= a[(k, k)];
+            x[k] = if INVERTED { x[k] * (1.0 / a[(k, k)]) } else { x[k] / a[(k, k)] };
             for i in 0..k {
-                x[i] -= a[(i, k)] * x[k];
+                x[i] = plus(x[i], -a[(i, k)], x[k]);
             }
         }
         x

@@ -1,4 +1,4 @@
-// Builds that say yes: trial pieces m, n and o of document 01 and four more. `compare/builds SPLINE_RS
+// Builds that say yes: trial pieces m, n and o of document 01 and four more. `compare/run SPLINE_RS builds
 // pieces` prints the coefficients and sums below from the Rust text.
 ghost use Prim.Native.Nat.{_≤_};
 use build_calls::pieces::answered;

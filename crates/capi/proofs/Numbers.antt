@@ -1,18 +1,21 @@
--- The number 1 stands for yes and for nothing else. Assumes nothing.
+-- The number 1 stands for yes and for nothing else, and no function answers a number that is not listed. Assumes nothing.
 use mathlib.Core.Path.{_≡_, refl, ap, subst}
 use mathlib.Core.Bool.{Bool, true, false, not, cond, _&&_}
+use Prim.Native.Nat.{ℕ}
 use native.Mathlib.Omega.{arith}
 use lib.Dec.{T, eqb}
 use lib.Ieee.Bits.{is-true}
 use lib.Ieee.Fits.{and-l}
+use Rattle.rules.specs.Build.{buildQuestions, buildNumber}
+use Rattle.rules.specs.Query.{queryQuestions, queryNumber}
 use Rattle.rules.specs.Master.{MasterSet, masterQuestions, masterNumber, endpointEquations, jointEquations, checkMaster}
-use Rattle.rules.proofs.Questions.{not-the-number}
-use Rattle.capi.specs.Export.{checkNumber, OneIsYes}
+use Rattle.rules.proofs.Questions.{answer-passes}
+use Rattle.capi.specs.Export.{checkNumber, OneIsYes, buildNumbers, queryNumbers, checkNumbers, oneOf, NumbersAreListed}
 
 -- no question before a master check has the number 1
 not-one : (s : MasterSet) → masterNumber s ≡ 1 → ⊥
 unfolding masterNumber masterQuestions
-not-one s e = not-the-number 1 (masterQuestions s) tt e
+not-one s e = subst (λ (n : ℕ). T (not (eqb n 1))) e (answer-passes (λ (n : ℕ). not (eqb n 1)) (masterQuestions s) tt)
 
 pub one-is-yes : OneIsYes
 unfolding OneIsYes checkNumber checkMaster
@@ -33,3 +36,17 @@ one-is-yes s = (
 
     asked : T (checkMaster s .good) → T (eqb (masterNumber s) 0)
     asked t = and-l (eqb (masterNumber s) 0) (endpointEquations s) (and-l (eqb (masterNumber s) 0 && endpointEquations s) (jointEquations s) t)
+
+pub numbers-are-listed : NumbersAreListed
+unfolding NumbersAreListed buildNumber buildQuestions queryNumber queryQuestions masterNumber masterQuestions checkNumber checkMaster oneOf
+numbers-are-listed = (
+  λ b cells. answer-passes (oneOf buildNumbers) (buildQuestions b cells) tt,
+  λ i n. answer-passes (oneOf queryNumbers) (queryQuestions i n) tt,
+  λ s. chosen (masterNumber s) (checkMaster s .refused) (checkMaster s .good) (answer-passes (oneOf checkNumbers) (masterQuestions s) tt),
+)
+  where
+    -- a refusal's number, or yes or no
+    chosen : (k : ℕ) (refused good : Bool) → T (oneOf checkNumbers k) → T (oneOf checkNumbers (cond refused k (cond good 1 0)))
+    chosen k true good h = h
+    chosen k false true h = tt
+    chosen k false false h = tt

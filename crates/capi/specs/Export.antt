@@ -2,7 +2,8 @@
 use mathlib.Core.Path.{_≡_}
 use mathlib.Core.Logic.{_↔_}
 use Prim.Native.Nat.{ℕ}
-use mathlib.Core.Bool.{true, false, cond}
+use mathlib.Core.Bool.{Bool, true, false, cond, _||_}
+use mathlib.Core.List.{List, [], _∷_}
 use lib.Dec.{T, eqb}
 use lib.Ieee.{Float}
 use Rattle.rules.specs.declared.OutOfRangeMode.{OutOfRangeMode}
@@ -11,6 +12,8 @@ use Rattle.rules.specs.declared.BoundaryState.{BoundaryState}
 use Rattle.rules.specs.declared.BoundaryState.the-variants.{None, Given}
 use Rattle.rules.specs.declared.SplineConfig.{SplineConfig}
 use Rattle.rules.specs.declared.PathRecord.{PathRecord}
+use Rattle.rules.specs.Build.{BuildInput, buildNumber}
+use Rattle.rules.specs.Query.{QueryInput, Lengths, queryNumber}
 use Rattle.rules.specs.Master.{MasterSet, MasterSays, checkMaster}
 
 -- A state by its kind: 0 is none, 1 is given, 2 is given per unit of s. Any other kind is a state of the largest usize as rows: question 6 says no to it, as no axes that question 4 lets pass are so many.
@@ -55,3 +58,25 @@ checkNumber says = cond (says .refused) (says .number) (cond (says .good) 1 0)
 -- No refusal has the number 1: it stands for yes and for nothing else. Proved by `one-is-yes` of proofs/Numbers.antt.
 unfoldable pub OneIsYes : Type 0
 OneIsYes = (s : MasterSet) → (checkNumber (checkMaster s) ≡ 1) ↔ T (checkMaster s .good)
+
+-- The numbers that `spline_build`, `spline_query` and `spline_check_master` can answer; include/spline.h has a name for each.
+abbrev pub buildNumbers : List ℕ
+buildNumbers = 0 ∷ 2 ∷ 3 ∷ 4 ∷ 300 ∷ 301 ∷ 302 ∷ 303 ∷ 304 ∷ 307 ∷ []
+
+abbrev pub queryNumbers : List ℕ
+queryNumbers = 0 ∷ 2 ∷ 300 ∷ 301 ∷ 302 ∷ 303 ∷ 304 ∷ 305 ∷ 308 ∷ []
+
+abbrev pub checkNumbers : List ℕ
+checkNumbers = 0 ∷ 1 ∷ 2 ∷ 4 ∷ 302 ∷ 303 ∷ 304 ∷ []
+
+-- a number is on a list
+unfoldable pub oneOf : List ℕ → ℕ → Bool
+oneOf [] n = false
+oneOf (k ∷ rest) n = eqb n k || oneOf rest n
+
+-- There are no others. Proved by `numbers-are-listed` of proofs/Numbers.antt.
+unfoldable pub NumbersAreListed : Type 0
+NumbersAreListed =
+    ((b : BuildInput) (cells : ℕ) → T (oneOf buildNumbers (buildNumber b cells)))
+    × ((i : QueryInput) (n : Lengths) → T (oneOf queryNumbers (queryNumber i n)))
+    × ((s : MasterSet) → T (oneOf checkNumbers (checkNumber (checkMaster s))))

@@ -1,4 +1,4 @@
-// Replays a list of fused multiply-adds that a processor worked out (compare/fused list): a line has
+// Replays a list of fused multiply-adds that a processor worked out (compare/run: fused list): a line has
 // the bits of a, b, c and of a * b + c, each as 16 hexadecimal digits. Prints how many there were,
 // and how many came out unlike.
 ghost use Prim.Native.Nat.{_≤_};

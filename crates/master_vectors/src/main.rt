@@ -1,4 +1,4 @@
-// Replays a list of sets that were made in exact arithmetic (compare/masters vectors). A line for a set has its
+// Replays a list of sets that were made in exact arithmetic (compare/run: masters vectors). A line for a set has its
 // order and points, how many numbers it has, the answer, and how many changes follow. A line for each number is
 // next: waypoints, start, end and table. Then comes a line for each change: a place among the numbers, what
 // stands there for this one check, and the answer. Answers are 0 for no, 1 for yes and else a refusal's number,

@@ -1,4 +1,4 @@
-// Replays a list of queries that the Rust text of copp worked out (compare/queries vectors). A line for a
+// Replays a list of queries that the Rust text of copp worked out (compare/run: queries vectors). A line for a
 // path has its order, segments and axes, how many coefficients it has and of which kind, its mode, a seed,
 // s_min, s_max and inv_ds. Eight lines under it have an s each, and what a query of each level has to give
 // there: the position, first, second and third derivative, each axis by axis. All numbers are hexadecimal,

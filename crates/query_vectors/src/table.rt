@@ -1,4 +1,4 @@
-// The table of coefficients that a kind and a seed stand for, as compare/queries makes it: from the seed on
+// The table of coefficients that a kind and a seed stand for, as compare/queries.rs makes it: from the seed on
 // each number is 48271 times the last one, modulo 2^31 - 1, and two of them in turn are the 62 binary digits of
 // a coefficient.
 ghost use Prim.Native.Nat.{_<_};

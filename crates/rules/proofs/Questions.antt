@@ -1,6 +1,6 @@
 -- The answer 0 means a yes to every question: `said-yes`, at the place of a question in its list. What the first question's answer gives:
--- `yes-to`, `no-to`. What the first k give: `first-no`, where one of them says no, and `first-yes`, where none does. A number that is no question's is not the
--- answer: `not-the-number`. Assumes nothing.
+-- `yes-to`, `no-to`. What the first k give: `first-no`, where one of them says no, and `first-yes`, where none does. What holds of
+-- 0 and of every question's number holds of the answer: `answer-passes`. Assumes nothing.
 use mathlib.Core.Path.{_≡_, refl, sym, subst}
 use mathlib.Core.Bool.{Bool, true, false, not, _&&_}
 use mathlib.Core.List.{List, [], _∷_}
@@ -32,16 +32,16 @@ said-yes (ask true n ∷ rest) h e (suc k) = said-yes rest (and-r (not (eqb n 0)
 said-yes (ask false n ∷ rest) h e zero = never n (numbered rest) h e
 said-yes (ask false n ∷ rest) h e (suc k) = absurd (never n (numbered rest) h e)
 
--- a number that no question has, nor a yes to all; `tt` shows it of a list whose numbers are written out
-abbrev pub without : ℕ → List Question → Bool
-without k [] = not (eqb 0 k)
-without k (ask b n ∷ rest) = not (eqb n k) && without k rest
+-- a test of 0 and of every question's number, passed; `tt` shows it where the numbers are written out
+abbrev pub tested : (ℕ → Bool) → List Question → Bool
+tested p [] = p 0
+tested p (ask b n ∷ rest) = p n && tested p rest
 
-pub not-the-number : (k : ℕ) (qs : List Question) → T (without k qs) → firstNo qs ≡ k → ⊥
+pub answer-passes : (p : ℕ → Bool) (qs : List Question) → T (tested p qs) → T (p (firstNo qs))
 unfolding firstNo
-not-the-number k [] h e = T-not (eqb 0 k) h (subst (λ (j : ℕ). T (eqb 0 j)) e (eqb-refl 0))
-not-the-number k (ask true n ∷ rest) h e = not-the-number k rest (and-r (not (eqb n k)) (without k rest) h) e
-not-the-number k (ask false n ∷ rest) h e = T-not (eqb n k) (and-l (not (eqb n k)) (without k rest) h) (subst (λ (j : ℕ). T (eqb n j)) e (eqb-refl n))
+answer-passes p [] h = h
+answer-passes p (ask true n ∷ rest) h = answer-passes p rest (and-r (p n) (tested p rest) h)
+answer-passes p (ask false n ∷ rest) h = and-l (p n) (tested p rest) h
 
 -- a question asked first: a yes goes on to the rest, and a no gives its number
 pub yes-to : {b : Bool} (n : ℕ) (rest : List Question) → b ≡ true → firstNo (ask b n ∷ rest) ≡ firstNo rest

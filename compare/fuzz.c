@@ -1,0 +1,189 @@
+/*
+ * Calls every function of the library from C with generated input, for watched.c and valgrind to watch.
+ *
+ *   fuzz COUNT   COUNT calls of each function
+ */
+#include <stdint.h>
+#include <stdio.h>
+#include <stdlib.h>
+#include <string.h>
+
+#include "../include/spline.h"
+
+/* ---- random numbers: xorshift64*, as in random.rs */
+
+static uint64_t state = 0x243f6a8885a308d3;
+
+static uint64_t bits(void) {
+    state ^= state >> 12;
+    state ^= state << 25;
+    state ^= state >> 27;
+    return state * 0x2545f4914f6cdd1d;
+}
+
+static size_t below(size_t n) {
+    return (size_t)((bits() >> 11) % n);
+}
+
+static int one_in(size_t n) {
+    return below(n) == 0;
+}
+
+static uint8_t byte(void) {
+    return (uint8_t)(bits() >> 56);
+}
+
+static double pattern(void) {
+    uint64_t all = bits();
+    double x;
+    memcpy(&x, &all, sizeof x);
+    return x;
+}
+
+/* A small whole number; or, one in eight where those are asked for, any pattern, NaN and infinities among them. */
+static double number(int any) {
+    return any && one_in(8) ? pattern() : (double)below(41) - 20.0;
+}
+
+/* ---- lists. An empty one is NULL at times. */
+
+static void *list(size_t count) {
+    if (count == 0 && one_in(2))
+        return NULL;
+    void *cells = malloc((count + 1) * sizeof(uint64_t));
+    if (!cells)
+        abort();
+    return cells;
+}
+
+static double *floats(size_t count, int any) {
+    double *cells = list(count);
+    for (size_t i = 0; i < count; i++)
+        cells[i] = number(any);
+    return cells;
+}
+
+static int64_t *wholes(size_t count, int any) {
+    int64_t *cells = list(count);
+    for (size_t i = 0; i < count; i++)
+        cells[i] = any && one_in(8) ? (int64_t)bits() : (int64_t)below(41) - 20;
+    return cells;
+}
+
+/* ---- counts */
+
+/* As it should be, or beside that, or small. */
+static size_t near(size_t count) {
+    switch (below(24)) {
+    case 0:
+        return count + 1 + below(3);
+    case 1:
+        return count > 3 ? count - 1 - below(3) : 0;
+    case 2:
+        return below(12);
+    default:
+        return count;
+    }
+}
+
+/* A count that comes with no list may also be one that no list has. */
+static size_t told(size_t count) {
+    return one_in(64) ? SIZE_MAX >> below(48) : near(count);
+}
+
+static size_t some_order(void) {
+    return 3 + 2 * below(3);
+}
+
+static size_t some_points(void) {
+    return one_in(16) ? 2 + below(256) : 2 + below(8);
+}
+
+static void range(double *s_min, double *s_max) {
+    *s_min = one_in(8) ? number(1) : 0.0;
+    *s_max = one_in(8) ? number(1) : 1.0 + (double)below(9);
+}
+
+/* ---- the calls */
+
+static void build(void) {
+    size_t order = some_order(), points = some_points(), axes = 1 + below(8), m = order / 2;
+    int any = one_in(4);
+    uint8_t start_kind = one_in(16) ? byte() : (uint8_t)below(3), end_kind = one_in(16) ? byte() : (uint8_t)below(3);
+    size_t waypoint_count = near(axes * points), start_count = near(axes * m), end_count = near(axes * m);
+    size_t coefficient_count = near(SPLINE_COEFFICIENTS(order, points, axes));
+    double *waypoints = floats(waypoint_count, any), *start = floats(start_count, any), *end = floats(end_count, any);
+    double *coefficients = floats(coefficient_count, 1), inv_ds = number(1), s_min, s_max;
+    range(&s_min, &s_max);
+    spline_build(told(order), told(points), told(axes), waypoints, waypoint_count,
+                 start_kind, told(axes), told(m), start, start_count, end_kind, told(axes), told(m), end, end_count,
+                 s_min, s_max, byte() % 3, coefficients, coefficient_count, &inv_ds);
+    free(waypoints);
+    free(start);
+    free(end);
+    free(coefficients);
+}
+
+static void query(void) {
+    static const uint8_t levels[] = {0, 2, 3};
+    size_t order = some_order(), segments = some_points() - 1, axes = 1 + below(8);
+    uint8_t level = one_in(16) ? byte() : levels[below(3)];
+    size_t coefficient_count = near(axes * segments * (order + 1)), count[4];
+    double *coefficients = floats(coefficient_count, one_in(4)), *out[4], s_min, s_max;
+    for (int k = 0; k < 4; k++) {
+        count[k] = k <= level ? near(axes) : below(12);
+        out[k] = floats(count[k], 1);
+    }
+    range(&s_min, &s_max);
+    double inv_ds = one_in(16) ? number(1) : (double)segments / (s_max - s_min);
+    double s = one_in(4) ? number(1) : s_min + (s_max - s_min) * ((double)below(1025) / 1024.0);
+    spline_query(told(order), told(segments), told(axes), s_min, s_max, inv_ds, byte() % 3, coefficients, coefficient_count, s, level,
+                 out[0], count[0], out[1], count[1], out[2], count[2], out[3], count[3]);
+    free(coefficients);
+    for (int k = 0; k < 4; k++)
+        free(out[k]);
+}
+
+/* Half of the sets are a straight line, which is good at every order; the others are of any numbers. */
+static void check(void) {
+    size_t order = some_order(), points = some_points(), m = order / 2, cells = order + 1;
+    int line = one_in(2), any = one_in(8);
+    size_t waypoint_count = line ? points : near(points), start_count = line ? m : near(m), end_count = line ? m : near(m);
+    size_t table_count = line ? (points - 1) * cells : near((points - 1) * cells);
+    int64_t *waypoints = wholes(waypoint_count, any), *start = wholes(start_count, any), *end = wholes(end_count, any);
+    int64_t *table = wholes(table_count, any);
+    if (line) {
+        for (size_t i = 0; i < points; i++)
+            waypoints[i] = (int64_t)i;
+        for (size_t r = 0; r < m; r++)
+            start[r] = end[r] = r == 0;
+        for (size_t i = 0; i < table_count; i++)
+            table[i] = i % cells == 0 ? (int64_t)(i / cells) : i % cells == 1;
+    }
+    uint32_t answer = spline_check_master(line ? order : told(order), waypoints, waypoint_count, start, start_count,
+                                          end, end_count, table, table_count);
+    if (line && answer != SPLINE_YES)
+        abort();
+    free(waypoints);
+    free(start);
+    free(end);
+    free(table);
+}
+
+static void step(void) {
+    double whole = (double)below(1 << 20);
+    if (spline_mul_add(whole, whole, -whole) != whole * whole - whole)
+        abort();
+    spline_mul_add(pattern(), pattern(), pattern());
+}
+
+int main(int argc, char **argv) {
+    long calls = argc > 1 ? atol(argv[1]) : 0;
+    for (long i = 0; i < calls; i++) {
+        build();
+        query();
+        check();
+        step();
+    }
+    return 0;
+}

@@ -1,0 +1,55 @@
+//! The static library against the Rust text of copp, the processor's fused multiply-add and exact whole numbers.
+//! `compare/run` builds and runs it.
+//!
+//!   compare PERCENT   every comparison, a row each; 100 for the numbers of calls that README tells of
+//!   time              every timing, a row each
+//!   fused list        the list that crates/fused_vectors replays in the gate
+//!   queries vectors   the list that crates/query_vectors replays in the gate
+//!   masters vectors   the list that crates/master_vectors replays in the gate
+//!   builds pieces     what crates/build_pieces expects, by the Rust alone
+
+use input::{diag, path};
+
+mod asked;
+mod builds;
+mod exact;
+mod fused;
+mod input;
+// bindings/spline.rs, whose name the Rust text has here.
+mod library;
+mod masters;
+mod queries;
+mod query;
+mod random;
+mod rows;
+mod set;
+// The text of src/path/spline.rs, unchanged, with functions after it that hand out what is private there.
+#[allow(dead_code)]
+mod spline;
+
+fn compare(percent: u64) {
+    fused::compare(800_000 * percent);
+    builds::compare(3_000 * percent);
+    queries::compare(20_000 * percent);
+    masters::compare(20_000 * percent);
+}
+
+fn time() {
+    builds::time();
+    queries::time();
+    fused::time();
+    masters::time();
+}
+
+fn main() {
+    let words: Vec<String> = std::env::args().skip(1).collect();
+    match words.iter().map(String::as_str).collect::<Vec<_>>().as_slice() {
+        ["compare", percent] => compare(percent.parse().expect("a whole number")),
+        ["time"] => time(),
+        ["fused", "list"] => fused::list(),
+        ["queries", "vectors"] => queries::vectors(5_040),
+        ["masters", "vectors"] => masters::vectors(),
+        ["builds", "pieces"] => builds::pieces(),
+        _ => panic!("compare PERCENT, time, fused list, queries vectors, masters vectors or builds pieces"),
+    }
+}

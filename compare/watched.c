@@ -1,0 +1,204 @@
+/*
+ * Stands between a C program and the library, by the linker's --wrap, and watches every call; for valgrind. Each list
+ * that is lent goes to the library as a copy between guard cells that nobody may read or write, and a buffer that is to
+ * be written counts there as never written. So valgrind reports every step beyond a list and every decision on a cell
+ * that the caller did not give. After each call it is seen that the number is one that the function has, that the guard
+ * cells and all that was lent to be read are as they were, that a refused call changed no cell, and that a served call
+ * wrote every cell that it is to write.
+ *
+ * At the end a row for each function that was called goes to the file that the environment names as ROWS: what was
+ * called, against what, calls, cells looked at, and how much was wrong, what valgrind reported included. PROGRAM is the
+ * program's name.
+ */
+#include <stdio.h>
+#include <stdlib.h>
+#include <string.h>
+#include <valgrind/memcheck.h>
+
+#include "../include/spline.h"
+
+/* ---- what was seen */
+
+typedef struct {
+    const char *name;
+    unsigned long long served, refused, cells, wrong;
+} Seen;
+
+static Seen builds = {"builds", 0, 0, 0, 0}, queries = {"queries", 0, 0, 0, 0};
+static Seen checks = {"master checks", 0, 0, 0, 0}, steps = {"fused multiply-adds", 0, 0, 0, 0};
+
+static void see(Seen *seen, int right, const char *what) {
+    if (!right) {
+        seen->wrong++;
+        fprintf(stderr, "wrong, %s: %s\n", seen->name, what);
+    }
+}
+
+/* The first numbers of a list, up to the count, say that a call was served; the rest of the list are refusals. */
+static int served(Seen *seen, uint32_t answer, const uint32_t *numbers, size_t count, size_t yes) {
+    size_t at = 0;
+    while (at < count && numbers[at] != answer)
+        at++;
+    see(seen, at < count, "a number that the function does not have");
+    if (at < yes)
+        seen->served++;
+    else
+        seen->refused++;
+    return at < yes;
+}
+
+__attribute__((destructor)) static void print(void) {
+    const Seen *all[] = {&builds, &queries, &checks, &steps};
+    const char *name = getenv("ROWS");
+    FILE *rows = name ? fopen(name, "a") : NULL;
+    if (!rows)
+        abort();
+    for (int i = 0; i < 4; i++) {
+        unsigned long long calls = all[i]->served + all[i]->refused;
+        if (calls > 0)
+            fprintf(rows, PROGRAM ": %s (%llu served, %llu refused)\tvalgrind, guard cells and what was lent\t%llu\t%llu\t%llu\n",
+                    all[i]->name, all[i]->served, all[i]->refused, calls, all[i]->cells, all[i]->wrong);
+    }
+    fclose(rows);
+}
+
+/* ---- lists between guard cells. A cell is 64 bits, a double or an int64_t. */
+
+enum { GUARD = 8, CELL = sizeof(uint64_t) };
+
+static const uint64_t GUARD_CELL = 0x4badcafe4badcafe;
+
+typedef struct {
+    void *given;
+    size_t count;
+    /* the copy that the library gets, with its guard cells, and a second one to compare with */
+    uint64_t *block, *before;
+} List;
+
+static uint64_t *cells(const List *l) {
+    return l->block + GUARD;
+}
+
+static List lend(const void *given, size_t count, int written) {
+    List l = {(void *)given, count, malloc((count + 2 * GUARD) * CELL), malloc((count + 1) * CELL)};
+    if (!l.block || !l.before)
+        abort();
+    for (size_t i = 0; i < GUARD; i++)
+        l.block[i] = cells(&l)[count + i] = GUARD_CELL;
+    if (count > 0) {
+        memcpy(cells(&l), given, count * CELL);
+        memcpy(l.before, given, count * CELL);
+        VALGRIND_MAKE_MEM_DEFINED(l.before, count * CELL);
+    }
+    VALGRIND_MAKE_MEM_NOACCESS(l.block, GUARD * CELL);
+    VALGRIND_MAKE_MEM_NOACCESS(cells(&l) + count, GUARD * CELL);
+    if (written)
+        VALGRIND_MAKE_MEM_UNDEFINED(cells(&l), count * CELL);
+    return l;
+}
+
+/* What the library gets. No list at all stays none. */
+static void *lent(const List *l) {
+    return l->given ? cells(l) : NULL;
+}
+
+/* After the call, where the library wrote all of the list or was to write none of it. */
+static void take_back(Seen *seen, List *l, int written) {
+    if (written)
+        see(seen, VALGRIND_CHECK_MEM_IS_DEFINED(cells(l), l->count * CELL) == 0, "a cell was not written");
+    VALGRIND_MAKE_MEM_DEFINED(l->block, (l->count + 2 * GUARD) * CELL);
+    for (size_t i = 0; i < GUARD; i++)
+        see(seen, l->block[i] == GUARD_CELL && cells(l)[l->count + i] == GUARD_CELL, "a guard cell was written to");
+    if (!written)
+        see(seen, memcmp(cells(l), l->before, l->count * CELL) == 0, "a cell was changed");
+    else if (l->count > 0)
+        memcpy(l->given, cells(l), l->count * CELL);
+    seen->cells += l->count + 2 * GUARD;
+    free(l->block);
+    free(l->before);
+}
+
+/* ---- the calls. __real_NAME is the library's function, and a call of NAME comes to __wrap_NAME. */
+
+double __real_spline_mul_add(double a, double b, double c);
+
+double __wrap_spline_mul_add(double a, double b, double c) {
+    unsigned long long errors = VALGRIND_COUNT_ERRORS;
+    double r = __real_spline_mul_add(a, b, c);
+    steps.served++;
+    steps.wrong += VALGRIND_COUNT_ERRORS - errors;
+    return r;
+}
+
+uint32_t __real_spline_build(size_t order, size_t points, size_t axes, const double *waypoints, size_t waypoint_count,
+                             uint8_t start_kind, size_t start_rows, size_t start_cols, const double *start, size_t start_count,
+                             uint8_t end_kind, size_t end_rows, size_t end_cols, const double *end, size_t end_count,
+                             double s_min, double s_max, uint8_t mode,
+                             double *coefficients, size_t coefficient_count, double *inv_ds);
+
+uint32_t __wrap_spline_build(size_t order, size_t points, size_t axes, const double *waypoints, size_t waypoint_count,
+                             uint8_t start_kind, size_t start_rows, size_t start_cols, const double *start, size_t start_count,
+                             uint8_t end_kind, size_t end_rows, size_t end_cols, const double *end, size_t end_count,
+                             double s_min, double s_max, uint8_t mode,
+                             double *coefficients, size_t coefficient_count, double *inv_ds) {
+    static const uint32_t numbers[] = {0, 2, 3, 4, 300, 301, 302, 303, 304, 307};
+    unsigned long long errors = VALGRIND_COUNT_ERRORS;
+    List w = lend(waypoints, waypoint_count, 0), s = lend(start, start_count, 0), e = lend(end, end_count, 0);
+    List c = lend(coefficients, coefficient_count, 1), i = lend(inv_ds, 1, 1);
+    uint32_t answer = __real_spline_build(order, points, axes, lent(&w), waypoint_count,
+                                          start_kind, start_rows, start_cols, lent(&s), start_count,
+                                          end_kind, end_rows, end_cols, lent(&e), end_count,
+                                          s_min, s_max, mode, lent(&c), coefficient_count, lent(&i));
+    int yes = served(&builds, answer, numbers, sizeof numbers / sizeof *numbers, 1);
+    take_back(&builds, &w, 0);
+    take_back(&builds, &s, 0);
+    take_back(&builds, &e, 0);
+    take_back(&builds, &c, yes);
+    take_back(&builds, &i, yes);
+    builds.wrong += VALGRIND_COUNT_ERRORS - errors;
+    return answer;
+}
+
+uint32_t __real_spline_query(size_t order, size_t segments, size_t axes, double s_min, double s_max, double inv_ds, uint8_t mode,
+                             const double *coefficients, size_t coefficient_count, double s, uint8_t level,
+                             double *q, size_t q_count, double *dq, size_t dq_count,
+                             double *ddq, size_t ddq_count, double *dddq, size_t dddq_count);
+
+uint32_t __wrap_spline_query(size_t order, size_t segments, size_t axes, double s_min, double s_max, double inv_ds, uint8_t mode,
+                             const double *coefficients, size_t coefficient_count, double s, uint8_t level,
+                             double *q, size_t q_count, double *dq, size_t dq_count,
+                             double *ddq, size_t ddq_count, double *dddq, size_t dddq_count) {
+    static const uint32_t numbers[] = {0, 2, 300, 301, 302, 303, 304, 305, 308};
+    unsigned long long errors = VALGRIND_COUNT_ERRORS;
+    List c = lend(coefficients, coefficient_count, 0);
+    List out[] = {lend(q, q_count, 1), lend(dq, dq_count, 1), lend(ddq, ddq_count, 1), lend(dddq, dddq_count, 1)};
+    uint32_t answer = __real_spline_query(order, segments, axes, s_min, s_max, inv_ds, mode,
+                                          lent(&c), coefficient_count, s, level, lent(&out[0]), q_count, lent(&out[1]), dq_count,
+                                          lent(&out[2]), ddq_count, lent(&out[3]), dddq_count);
+    int yes = served(&queries, answer, numbers, sizeof numbers / sizeof *numbers, 1);
+    take_back(&queries, &c, 0);
+    for (int k = 0; k < 4; k++)
+        take_back(&queries, &out[k], yes && k <= level);
+    queries.wrong += VALGRIND_COUNT_ERRORS - errors;
+    return answer;
+}
+
+uint32_t __real_spline_check_master(size_t order, const int64_t *waypoints, size_t waypoint_count, const int64_t *start, size_t start_count,
+                                    const int64_t *end, size_t end_count, const int64_t *table, size_t table_count);
+
+uint32_t __wrap_spline_check_master(size_t order, const int64_t *waypoints, size_t waypoint_count, const int64_t *start, size_t start_count,
+                                    const int64_t *end, size_t end_count, const int64_t *table, size_t table_count) {
+    static const uint32_t numbers[] = {SPLINE_NO, SPLINE_YES, 2, 4, 302, 303, 304};
+    unsigned long long errors = VALGRIND_COUNT_ERRORS;
+    List w = lend(waypoints, waypoint_count, 0), s = lend(start, start_count, 0);
+    List e = lend(end, end_count, 0), t = lend(table, table_count, 0);
+    uint32_t answer =
+        __real_spline_check_master(order, lent(&w), waypoint_count, lent(&s), start_count, lent(&e), end_count, lent(&t), table_count);
+    served(&checks, answer, numbers, sizeof numbers / sizeof *numbers, 2);
+    take_back(&checks, &w, 0);
+    take_back(&checks, &s, 0);
+    take_back(&checks, &e, 0);
+    take_back(&checks, &t, 0);
+    checks.wrong += VALGRIND_COUNT_ERRORS - errors;
+    return answer;
+}

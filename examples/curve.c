@@ -1,0 +1,83 @@
+/* An arch through three points, from C: built, printed, walked along, refused and checked. `examples/c` builds and runs
+   it; examples/curve.rs is the same in Rust and prints the same. */
+#include <math.h>
+#include <stdio.h>
+#include <string.h>
+
+#include "../include/spline.h"
+
+enum { ORDER = 5, POINTS = 3, AXES = 2, SEGMENTS = POINTS - 1, CELLS = ORDER + 1, STATE = (ORDER - 1) / 2 };
+
+static const double S_MIN = 0.0, S_MAX = 2.0;
+
+/* Builds into a table that may be in use: it changes only where the answer is SPLINE_OK. */
+static uint32_t build(const double *waypoints, double *table, double *inv_ds) {
+    return spline_build(ORDER, POINTS, AXES, waypoints, AXES * POINTS,
+                        SPLINE_STATE_NONE, 0, 0, NULL, 0, SPLINE_STATE_NONE, 0, 0, NULL, 0,
+                        S_MIN, S_MAX, SPLINE_MODE_ERROR, table, SPLINE_COEFFICIENTS(ORDER, POINTS, AXES), inv_ds);
+}
+
+/* Position and two derivatives at s. */
+static uint32_t query(const double *table, double inv_ds, double s, double *q, double *dq, double *ddq) {
+    return spline_query(ORDER, SEGMENTS, AXES, S_MIN, S_MAX, inv_ds, SPLINE_MODE_ERROR,
+                        table, SPLINE_COEFFICIENTS(ORDER, POINTS, AXES), s, 2,
+                        q, AXES, dq, AXES, ddq, AXES, NULL, 0);
+}
+
+/* Whether a table is the master through x's points that starts and ends at rest. */
+static const char *check(const int64_t *table) {
+    const int64_t points[POINTS] = {0, 8, 16}, rest[STATE] = {0, 0};
+    uint32_t answer = spline_check_master(ORDER, points, POINTS, rest, STATE, rest, STATE, table, SEGMENTS * CELLS);
+    return answer == SPLINE_YES ? "yes" : answer == SPLINE_NO ? "no" : "refused";
+}
+
+int main(void) {
+    /* x and y of one point after the other */
+    const double waypoints[AXES * POINTS] = {0, 0, 8, 3, 16, 0};
+    double table[SPLINE_COEFFICIENTS(ORDER, POINTS, AXES)];
+    double inv_ds;
+
+    uint32_t number = build(waypoints, table, &inv_ds);
+    printf("build: %u\n", (unsigned)number);
+    if (number != SPLINE_OK)
+        return 1;
+    for (int axis = 0; axis < AXES; axis++)
+        for (int segment = 0; segment < SEGMENTS; segment++) {
+            printf("%c, segment %d:", "xy"[axis], segment);
+            for (int power = 0; power < CELLS; power++)
+                printf(" %.1f", table[(axis * SEGMENTS + segment) * CELLS + power]);
+            printf("\n");
+        }
+
+    for (int step = 0; step <= 8; step++) {
+        double s = step / 4.0, q[AXES], dq[AXES], ddq[AXES];
+        if (query(table, inv_ds, s, q, dq, ddq) != SPLINE_OK)
+            return 1;
+        double curvature = (dq[0] * ddq[1] - dq[1] * ddq[0]) / pow(dq[0] * dq[0] + dq[1] * dq[1], 1.5);
+        printf("s %.2f: x %.6f, y %.6f", s, q[0], q[1]);
+        /* the path starts and ends at rest, where it has no direction */
+        if (isfinite(curvature))
+            printf(", curvature %.6f", curvature);
+        printf("\n");
+    }
+
+    /* Points that are not accepted leave the loaded table as it was. */
+    double loaded[SPLINE_COEFFICIENTS(ORDER, POINTS, AXES)];
+    memcpy(loaded, table, sizeof table);
+    const double damaged[AXES * POINTS] = {0, 0, NAN, 3, 16, 0};
+    number = build(damaged, table, &inv_ds);
+    printf("a waypoint that is no number: refused with %u, the table is %s\n", (unsigned)number,
+           memcmp(loaded, table, sizeof table) == 0 ? "as it was" : "changed");
+
+    double q[AXES], dq[AXES], ddq[AXES];
+    printf("s 2.5: refused with %u\n", (unsigned)query(table, inv_ds, 2.5, q, dq, ddq));
+
+    /* The x axis is whole numbers, so it can be kept as a master. */
+    int64_t master[SEGMENTS * CELLS];
+    for (int i = 0; i < SEGMENTS * CELLS; i++)
+        master[i] = (int64_t)table[i];
+    printf("x as a master: %s", check(master));
+    master[SEGMENTS * CELLS - 1] += 1;
+    printf("; with its last number changed: %s\n", check(master));
+    return 0;
+}
