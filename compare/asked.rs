@@ -8,3 +8,8 @@ pub fn first_no(questions: &[(bool, u32)]) -> u32 {
 pub fn is_order(order: usize) -> bool {
     [3, 5, 7].contains(&order)
 }
+
+/// How many coefficients a curve has, where that is a number.
+pub fn table_length(axes: usize, segments: usize, order: usize) -> Option<usize> {
+    axes.checked_mul(segments)?.checked_mul(order.checked_add(1)?)
+}

@@ -61,10 +61,16 @@ fn ours(b: &Build, cells: &mut [f64], inv_ds: &mut f64) -> u32 {
 
 // ---- compare
 
-/// What the Rust says to a call that it can be given, by document 01's numbers.
-fn rust_number(b: &Build) -> Option<u32> {
+/// What the Rust says to a call that it can be given, by document 01's numbers: to one that gets a number of a question
+/// that the Rust asks too, where none that it does not ask comes before.
+fn rust_number(b: &Build, number: u32) -> Option<u32> {
+    let asked = match number {
+        302 => b.order < 3 || b.order.is_multiple_of(2),
+        303 | 304 => true,
+        _ => false,
+    };
     let matches = |s: &State| s.given.is_none_or(|(rows, columns, _)| rows.checked_mul(columns) == Some(s.numbers.len()));
-    if b.waypoints.len() != b.axes * b.points || !matches(&b.start) || !matches(&b.end) {
+    if !asked || b.axes.checked_mul(b.points) != Some(b.waypoints.len()) || !matches(&b.start) || !matches(&b.end) {
         return None;
     }
     Some(match b.path() {
@@ -196,17 +202,7 @@ fn count_build(count: &mut Count, b: &Build) -> bool {
 fn count_refusal(count: &mut Count, b: &Build, expected: u32) -> bool {
     let (number, after, before, quotient) = run(b);
     count.numbers += after.len() as u64 + 1;
-    // the questions that the Rust asks too, where none that it does not ask comes before
-    let asked = match expected {
-        302 => b.order < 3 || b.order.is_multiple_of(2),
-        303 | 304 => true,
-        _ => false,
-    };
-    let rust = asked.then(|| rust_number(b)).flatten();
-    number == expected
-        && rust.is_none_or(|number| number == expected)
-        && same_bits(quotient, UNSET)
-        && after.iter().zip(&before).all(|(&x, &y)| same_bits(x, y))
+    number == expected && same_bits(quotient, UNSET) && after.iter().zip(&before).all(|(&x, &y)| same_bits(x, y))
 }
 
 fn describe(b: &Build) -> String {
@@ -236,10 +232,14 @@ const SOURCES: [(&str, &str); 3] = [
 pub fn compare(count: u64) {
     let mut random = Random(0x6a09_e667_f3bc_c909);
     let mut builds = SOURCES.map(|_| Count::default());
-    let mut refusals = Refusals::default();
+    let (mut refusals, mut by_rust) = (Refusals::default(), Count::default());
     let mut shown = 0;
     let mut call = |b: Build| {
         let expected = b.number();
+        if let Some(number) = rust_number(&b, expected) {
+            by_rust.calls += 1;
+            by_rust.unlike += u64::from(number != expected);
+        }
         let entry = match (expected, b.order, b.points) {
             (0, 3, _) => &mut builds[0],
             (0, _, 2) => &mut builds[1],
@@ -269,7 +269,8 @@ pub fn compare(count: u64) {
     for ((what, against), count) in SOURCES.iter().zip(&builds) {
         count.print_zeros(what, against);
     }
-    refusals.print("refused builds", "document 01's questions as plain tests, and the Rust text where it asks them");
+    refusals.print("refused builds", "document 01's questions as plain tests");
+    by_rust.print("refused builds that the Rust refuses too", "the Rust's own errors");
 }
 
 // ---- time

@@ -2,7 +2,7 @@
 //! Rust text of copp. A driver that uses it has the text as the module `spline` at its root, with `diag`
 //! and `path` of this file beside it, since the text looks for them there.
 
-use crate::asked::{first_no, is_order};
+use crate::asked::{first_no, is_order, table_length};
 use crate::random::Random;
 use crate::spline::{SplineConfig, SplinePath};
 use diag::PathError;
@@ -87,7 +87,7 @@ impl State {
         State { given: Some((axes, m, marked)), numbers: random.coordinates(axes * m) }
     }
     pub fn fits(&self, axes: usize, m: usize) -> bool {
-        self.given.is_none_or(|(rows, columns, _)| rows == axes && columns == m && self.numbers.len() == axes * m)
+        self.given.is_none_or(|(rows, columns, _)| rows == axes && columns == m && axes.checked_mul(m) == Some(self.numbers.len()))
     }
     pub fn is_finite(&self) -> bool {
         self.given.is_none() || self.numbers.iter().all(|x| x.is_finite())
@@ -173,10 +173,10 @@ impl Build {
             (self.points >= 2, 304),
             (self.points <= 257, 2),
             ((1..=8).contains(&self.axes), 300),
-            (self.waypoints.len() == self.axes * self.points, 3),
+            (self.axes.checked_mul(self.points) == Some(self.waypoints.len()), 3),
             (self.start.fits(self.axes, m), 303),
             (self.end.fits(self.axes, m), 303),
-            (self.cells == self.axes * segments * (self.order + 1), 2),
+            (table_length(self.axes, segments, self.order) == Some(self.cells), 2),
             (range(segments, self.s_min, self.s_max).is_some(), 301),
             (finite(&self.waypoints) && self.start.is_finite() && self.end.is_finite(), 4),
         ])

@@ -267,8 +267,8 @@ pub fn compare(count: u64) {
             number => refusals.of(number),
         };
         entry.calls += 1;
-        // the answer; and of a refusal every cell that was lent
-        entry.numbers += if expected < 2 { 1 } else { size(&set) as u64 };
+        // the answer; and of a refusal every cell of the four lists and of those beside them
+        entry.numbers += if expected < 2 { 1 } else { (size(&set) + 8 * GUARD) as u64 };
         if answer != Some(expected) {
             entry.unlike += 1;
             if entry.unlike <= 5 {

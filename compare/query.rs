@@ -1,6 +1,6 @@
 //! A query's input, refused by document 01's questions as plain tests.
 
-use crate::asked::{first_no, is_order};
+use crate::asked::{first_no, is_order, table_length};
 use crate::input::range;
 
 /// What a query is given, but for the numbers of its table and buffers.
@@ -52,7 +52,7 @@ impl Query {
             (self.segments <= 256, 2),
             ((1..=8).contains(&self.axes), 300),
             (range(self.segments, self.s_min, self.s_max) == Some(self.inv_ds), 301),
-            (self.cells == self.axes * self.segments * (self.order + 1), 303),
+            (table_length(self.axes, self.segments, self.order) == Some(self.cells), 303),
             ([0, 2, 3].contains(&self.level), 308),
             (self.lengths.iter().zip(written).all(served), 2),
             (!self.s.is_nan() && (self.clamp || inside), 305),

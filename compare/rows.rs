@@ -1,5 +1,5 @@
-//! What the drivers print: the rows of two tables, their cells apart by tabs, which compare/table makes tables of. And what
-//! they count and time with.
+//! What the drivers print: the rows of two tables, their cells apart by tabs, which compare/table.awk makes tables of.
+//! And what they count, compare and time with.
 
 use std::collections::BTreeMap;
 use std::time::Instant;

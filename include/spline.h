@@ -5,8 +5,8 @@
  * crates/capi/src/lib.rt.
  *
  * A call that cannot be served gets one refusal number, and every buffer keeps its contents. No function
- * allocates, keeps anything between calls or ends the program; calls from several threads are fine while no two
- * share a buffer that is written.
+ * allocates, keeps anything between calls or ends the program; spline_build takes some 60 KB of stack. Calls from
+ * several threads are fine while no two share a buffer that is written.
  *
  * What the caller owes, since no proof can see it:
  * - a list is a pointer and a count of elements; the pointer is aligned for its type, and that many elements

@@ -1,7 +1,7 @@
 -- What the numbers that a caller hands over stand for. Assumes nothing.
 use mathlib.Core.Path.{_≡_}
 use mathlib.Core.Logic.{_↔_}
-use Prim.Native.Nat.{ℕ}
+use Prim.Native.Nat.{ℕ, _≤_}
 use mathlib.Core.Bool.{Bool, true, false, cond, _||_}
 use mathlib.Core.List.{List, [], _∷_}
 use lib.Dec.{T, eqb}
@@ -12,7 +12,7 @@ use Rattle.rules.specs.declared.BoundaryState.{BoundaryState}
 use Rattle.rules.specs.declared.BoundaryState.the-variants.{None, Given}
 use Rattle.rules.specs.declared.SplineConfig.{SplineConfig}
 use Rattle.rules.specs.declared.PathRecord.{PathRecord}
-use Rattle.rules.specs.Build.{BuildInput, buildNumber}
+use Rattle.rules.specs.Build.{BuildInput, validAxes, validState, buildNumber}
 use Rattle.rules.specs.Query.{QueryInput, Lengths, queryNumber}
 use Rattle.rules.specs.Master.{MasterSet, MasterSays, checkMaster}
 
@@ -23,6 +23,11 @@ stateOf kind rows columns =
     (cond (eqb kind 1) (Given rows columns false)
     (cond (eqb kind 2) (Given rows columns true)
     (Given 18446744073709551615 columns false)))
+
+-- So an unknown kind gets 303 in its place, whatever comes with it. Proved by `unknown-kinds-fit-nothing` of proofs/States.antt.
+unfoldable pub UnknownKindsFitNothing : Type 0
+UnknownKindsFitNothing =
+    (kind rows columns axes m : ℕ) (numbers : List Float) → 3 ≤ kind → T (validAxes axes) → validState axes m (stateOf kind rows columns) numbers ≡ false
 
 -- 1 is Clamp, and any other number is Error.
 unfoldable pub modeOf : ℕ → OutOfRangeMode
