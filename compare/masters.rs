@@ -6,27 +6,15 @@
 
 use crate::asked::first_no;
 use crate::exact;
-use crate::library::raw::spline_check_master;
+use crate::library::check_master;
 use crate::random::Random;
 use crate::rows::{best, counted, print_time, Count, Refusals, GUARD};
 use crate::set::{binomial, Set, LIMIT};
 use std::hint::black_box;
 
+/// The answer as a number, as C gets it.
 fn ours(order: usize, [waypoints, start, end, table]: [&[i64]; 4]) -> u32 {
-    // SAFETY: each pointer comes with the length of its list, and the function takes any numbers and writes nothing.
-    unsafe {
-        spline_check_master(
-            order,
-            waypoints.as_ptr(),
-            waypoints.len(),
-            start.as_ptr(),
-            start.len(),
-            end.as_ptr(),
-            end.len(),
-            table.as_ptr(),
-            table.len(),
-        )
-    }
+    check_master(order, waypoints, start, end, table).map_or_else(|refusal| refusal.number(), u32::from)
 }
 
 const ORDERS: [usize; 3] = [3, 5, 7];
