@@ -295,7 +295,7 @@ pub fn time() {
                 there(0);
                 let calls = (2e-3 / start.elapsed().as_secs_f64()).clamp(1.0, 20000.0) as usize;
                 here(0);
-                let (here, there) = best(60, calls, here, there);
+                let (here, there) = best(calls, here, there);
                 print_time(&format!("build, order {order}, {points} points, {}", counted(axes, "axis", "axes")), here, there);
             }
         }

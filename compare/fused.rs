@@ -5,9 +5,8 @@
 
 use crate::library::raw::spline_mul_add;
 use crate::random::Random;
-use crate::rows::{print_time, same_bits, Count};
+use crate::rows::{least, print_time, same_bits, Count};
 use std::hint::black_box;
-use std::time::Instant;
 
 type Triple = (f64, f64, f64);
 
@@ -206,10 +205,15 @@ pub fn compare(count: u64) {
 }
 
 /// Nanoseconds a call: the best of many rounds, each over more triples than a branch predictor learns.
+#[inline(always)]
+fn per_call(triples: &[Triple], round: impl FnMut()) -> f64 {
+    least(round) * 1e9 / triples.len() as f64
+}
+
 /// In a chain each result is the next call's factor.
 #[inline(always)]
 fn chain(triples: &[Triple], f: impl Fn(f64, f64, f64) -> f64) -> f64 {
-    best(triples, || {
+    per_call(triples, || {
         let mut r = 1.0;
         for &(_, b, c) in triples {
             r = f(r, b, c);
@@ -221,7 +225,7 @@ fn chain(triples: &[Triple], f: impl Fn(f64, f64, f64) -> f64) -> f64 {
 /// A chain for triples whose results are infinite or NaN at times: each result's sign is the next factor's.
 #[inline(always)]
 fn sign_chain(triples: &[Triple], f: impl Fn(f64, f64, f64) -> f64) -> f64 {
-    best(triples, || {
+    per_call(triples, || {
         let mut r: f64 = 1.0;
         for &(a, b, c) in triples {
             r = f(f64::from_bits(a.to_bits() ^ r.to_bits() & 1 << 63), b, c);
@@ -232,24 +236,13 @@ fn sign_chain(triples: &[Triple], f: impl Fn(f64, f64, f64) -> f64) -> f64 {
 
 #[inline(always)]
 fn independent(triples: &[Triple], f: impl Fn(f64, f64, f64) -> f64) -> f64 {
-    best(triples, || {
+    per_call(triples, || {
         let mut sum = 0;
         for &(a, b, c) in triples {
             sum ^= f(a, b, c).to_bits();
         }
         black_box(sum);
     })
-}
-
-#[inline(always)]
-fn best(triples: &[Triple], round: impl Fn()) -> f64 {
-    let mut least = f64::MAX;
-    for _ in 0..25 {
-        let start = Instant::now();
-        round();
-        least = least.min(start.elapsed().as_secs_f64() * 1e9 / triples.len() as f64);
-    }
-    least
 }
 
 #[target_feature(enable = "fma")]

@@ -331,7 +331,7 @@ pub fn time() {
             let lists = set.lists().map(|list| &list[..]);
             let here = |_| assert_eq!(ours(order, black_box(lists)), 1);
             let there = |_| assert_eq!(in_rust(black_box(order), black_box(lists)), 1);
-            let (here, there) = best(200, 1 + 20_000 / segments, here, there);
+            let (here, there) = best(1 + 20_000 / segments, here, there);
             print_time(&format!("check, order {order}, {}", counted(segments, "segment", "segments")), here, there);
         }
     }

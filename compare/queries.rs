@@ -413,7 +413,7 @@ pub fn time() {
                 };
                 let there =
                     |i: usize| theirs(black_box(&path), black_box(places[i]), black_box(level), other.each_mut().map(|list| &mut list[..]));
-                let (here, there) = best(200, places.len(), here, there);
+                let (here, there) = best(places.len(), here, there);
                 assert!(out.iter().flatten().zip(other.iter().flatten()).all(|(&x, &y)| same_bits(x, y)));
                 print_time(&format!("query, order {order}, level {level}, {}", counted(axes, "axis", "axes")), here, there);
             }

@@ -54,9 +54,25 @@ pub fn print_time(what: &str, ours: f64, other: f64) {
     println!("{what}\t{ours:.1}\t{other:.1}\t{:.2}", ours / other);
 }
 
+/// How long a timing takes, so that a machine that is busy for a moment does not decide it.
+const SECONDS: f64 = 1.5;
+
+/// Seconds of the best of as many rounds as there is time for. (Inlined: a round may need the processor's own instructions.)
+#[inline(always)]
+pub fn least(mut round: impl FnMut()) -> f64 {
+    let start = Instant::now();
+    let mut least = f64::MAX;
+    while start.elapsed().as_secs_f64() < SECONDS {
+        let start = Instant::now();
+        round();
+        least = least.min(start.elapsed().as_secs_f64());
+    }
+    least
+}
+
 /// Nanoseconds a call of each of two: the best of many rounds, taken in turn, each of so many calls, which are told their
 /// place in the round.
-pub fn best(rounds: usize, calls: usize, mut here: impl FnMut(usize), mut there: impl FnMut(usize)) -> (f64, f64) {
+pub fn best(calls: usize, mut here: impl FnMut(usize), mut there: impl FnMut(usize)) -> (f64, f64) {
     let round = |call: &mut dyn FnMut(usize)| {
         let start = Instant::now();
         for i in 0..calls {
@@ -64,8 +80,9 @@ pub fn best(rounds: usize, calls: usize, mut here: impl FnMut(usize), mut there:
         }
         start.elapsed().as_secs_f64() * 1e9 / calls as f64
     };
+    let start = Instant::now();
     let mut least = (f64::MAX, f64::MAX);
-    for _ in 0..rounds {
+    while start.elapsed().as_secs_f64() < SECONDS {
         least = (least.0.min(round(&mut here)), least.1.min(round(&mut there)));
     }
     least
