@@ -24,11 +24,12 @@ pub enum PathError {
     InvalidArgument,
     /// 300: no axis, or more than 8.
     InvalidDimension { dim: usize },
-    /// 301: the range is not finite or not in order, or its quotient is not, or a record's `inv_ds` is another one.
+    /// 301: an end of the range is not finite, or s_min < s_max does not hold, or segments / (s_max − s_min) is not finite
+    /// and above 0, or a record's `inv_ds` is another number than that quotient.
     InvalidRange { s_min: f64, s_max: f64 },
     /// 302: an order other than 3, 5 and 7.
     InvalidOrder { order: usize },
-    /// 303: a state that is not axes by (order − 1) / 2, or in a query a table of another length.
+    /// 303: a state that is not axes by (order − 1) / 2 with that many numbers, or in a query a table of another length.
     DimensionMismatch,
     /// 304: fewer than 2 points.
     NotEnoughWaypoints { n: usize },
@@ -109,7 +110,7 @@ impl Call {
             307 => PathError::SingularSystem,
             308 => PathError::UnsupportedDerivativeOrder { requested: level },
             // proved: there is no other (NumbersAreListed, crates/capi/specs/Export.antt)
-            _ => panic!("{number} is no refusal"),
+            _ => panic!("{} is no refusal", number),
         }
     }
 }
@@ -190,9 +191,10 @@ pub fn mul_add(a: f64, b: f64, c: f64) -> f64 {
     unsafe { raw::spline_mul_add(a, b, c) }
 }
 
-/// How many coefficients a curve has: order + 1 for each segment of each axis. It is 0 where no curve is served.
+/// How many coefficients a curve has: order + 1 for each segment of each axis. It is 0 where an order or a count is one
+/// that the library refuses.
 pub fn coefficient_count(order: usize, points: usize, axes: usize) -> usize {
-    if order <= 7 && (2..=257).contains(&points) && axes <= 8 {
+    if matches!(order, 3 | 5 | 7) && (2..=257).contains(&points) && (1..=8).contains(&axes) {
         axes * (points - 1) * (order + 1)
     } else {
         0
@@ -354,7 +356,7 @@ impl SplinePath {
 /// The functions of the library as they are exported; include/spline.h has a comment for each.
 pub mod raw {
     #[link(name = "capi", kind = "static")]
-    extern "C" {
+    unsafe extern "C" {
         pub fn spline_mul_add(a: f64, b: f64, c: f64) -> f64;
         pub fn spline_build(
             order: usize,
@@ -422,6 +424,12 @@ mod tests {
     fn piece() -> SplinePath {
         let config = SplineConfig { order: 3, s_max: 2.0, ..SplineConfig::default() };
         SplinePath::from_waypoints(&config, 3, 1, &[0.0, 4.0, 8.0]).unwrap()
+    }
+
+    /// A curve through points that are all 0.
+    fn piece_of(order: usize, points: usize, axes: usize) -> SplinePath {
+        let config = SplineConfig { order, ..SplineConfig::default() };
+        SplinePath::from_waypoints(&config, points, axes, &vec![0.0; points * axes]).unwrap()
     }
 
     const LOADED: [f64; 8] = [1.0, 2.0, 3.0, 4.0, 5.0, 6.0, 7.0, 8.0];
@@ -538,7 +546,16 @@ mod tests {
         assert_eq!(check_master(3, &[0, 0], &[0], &[(1 << 40) + 1], &table), Err(PathError::InvalidArgument));
     }
 
-    /// The library refuses before it looks at the buffer, and nothing is allocated for what it refuses.
+    #[test]
+    fn coefficients_are_counted() {
+        assert_eq!(coefficient_count(7, 257, 8), piece_of(7, 257, 8).coefficients().len());
+        assert_eq!(coefficient_count(3, 2, 1), piece_of(3, 2, 1).coefficients().len());
+        for (order, points, axes) in [(0, 2, 1), (4, 3, 1), (6, 257, 8), (9, 3, 1), (5, 1, 1), (5, 258, 1), (5, 3, 0), (5, 3, 9)] {
+            assert_eq!(coefficient_count(order, points, axes), 0);
+        }
+    }
+
+    /// The library refuses before it looks at the buffer, and nothing is allocated for an order or a count that it refuses.
     #[test]
     fn no_count_is_too_large() {
         for n in [usize::MAX, 1 << 63, 1 << 32] {

@@ -11,7 +11,7 @@ use crate::diag::PathError;
 use crate::input::{Build, State, HUGE, NOT_FINITE};
 use crate::library::raw::spline_build;
 use crate::random::Random;
-use crate::rows::{alike, best, counted, guarded, lent, print_time, same_bits, Count, Refusals};
+use crate::rows::{alike, best, counted, guarded, kept, lent, print_time, same_bits, Count, Refusals};
 use crate::spline::{coefficients, inv_ds, SplinePath};
 use std::hint::black_box;
 use std::time::Instant;
@@ -177,17 +177,24 @@ fn doubtful(random: &mut Random) -> Build {
 /// No answer of the library's.
 const UNSET: f64 = 1.0 / 3.0;
 
-/// A call of ours: its number, the buffer with its guard cells after it and before it, and inv_ds.
-fn run(b: &Build) -> (u32, Vec<f64>, Vec<f64>, f64) {
+/// A call of ours: its number, the buffer with its guard cells after it and before it, inv_ds, and whether the lists that
+/// were lent to be read are as they were.
+fn run(b: &Build) -> (u32, Vec<f64>, Vec<f64>, f64, bool) {
+    let given = lists(b).map(|list| list.to_vec());
     let before = guarded(0, b.cells);
     let mut after = before.clone();
     let mut quotient = UNSET;
     let number = ours(b, lent(&mut after), &mut quotient);
-    (number, after, before, quotient)
+    let all_kept = given.iter().zip(lists(b)).all(|(before, after)| kept(before, after));
+    (number, after, before, quotient, all_kept)
+}
+
+fn lists(b: &Build) -> [&[f64]; 3] {
+    [&b.waypoints, &b.start.numbers, &b.end.numbers]
 }
 
 fn count_build(count: &mut Count, b: &Build) -> bool {
-    let (number, after, mut expected, quotient) = run(b);
+    let (number, after, mut expected, quotient, all_kept) = run(b);
     let path = b.path().expect("the Rust builds it");
     if coefficients(&path).len() != b.cells {
         return false;
@@ -196,13 +203,13 @@ fn count_build(count: &mut Count, b: &Build) -> bool {
     let pairs = || after.iter().zip(&expected);
     count.numbers += b.cells as u64;
     count.zeros += pairs().filter(|(&x, &y)| x == y && !same_bits(x, y)).count() as u64;
-    number == 0 && same_bits(quotient, inv_ds(&path)) && pairs().all(|(&x, &y)| alike(x, y))
+    number == 0 && all_kept && same_bits(quotient, inv_ds(&path)) && pairs().all(|(&x, &y)| alike(x, y))
 }
 
 fn count_refusal(count: &mut Count, b: &Build, expected: u32) -> bool {
-    let (number, after, before, quotient) = run(b);
-    count.numbers += after.len() as u64 + 1;
-    number == expected && same_bits(quotient, UNSET) && after.iter().zip(&before).all(|(&x, &y)| same_bits(x, y))
+    let (number, after, before, quotient, all_kept) = run(b);
+    count.numbers += (after.len() + 1 + lists(b).iter().map(|list| list.len()).sum::<usize>()) as u64;
+    number == expected && all_kept && same_bits(quotient, UNSET) && kept(&before, &after)
 }
 
 fn describe(b: &Build) -> String {

@@ -1,7 +1,7 @@
 /*
  * Calls every function of the library from C with generated input, for watched.c and valgrind to watch.
  *
- *   fuzz COUNT   COUNT calls of each function
+ *   fuzz COUNT   COUNT calls of each function, and of spline_mul_add two for one
  */
 #include <stdint.h>
 #include <stdio.h>

@@ -162,7 +162,7 @@ fn change(random: &mut Random, set: &mut Set, which: u64) {
         1 => *cell(set, place) ^= 1 << random.below(40),
         2 => *cell(set, place) = random.pick(&[0, 1, LIMIT, -LIMIT]),
         3 => *cell(set, place) = random.pick(&[LIMIT + 1, -LIMIT - 1, i64::MIN, i64::MAX, 1 << 62]),
-        // a state's number, and a joint's: a coefficient 1 to 2m, or the highest one
+        // a state's number; and one of the table
         4 => {
             let first = set.waypoints.len();
             let states = (set.start.len() + set.end.len()).max(1) as u64;

@@ -10,7 +10,7 @@ use crate::input::{range, Build, HUGE, NOT_FINITE};
 use crate::library::raw::spline_query;
 use crate::query::Query;
 use crate::random::Random;
-use crate::rows::{alike, best, counted, guarded, lent, print_time, same_bits, Count, Refusals, GUARD};
+use crate::rows::{alike, best, counted, guarded, kept, lent, print_time, same_bits, Count, Refusals, GUARD};
 use crate::spline::{coefficients, eval_poly, path_of, segment_tau, SplinePath};
 use std::hint::black_box;
 
@@ -158,7 +158,7 @@ fn matching(random: &mut Random, order: usize, segments: usize, axes: usize) -> 
     }
 }
 
-/// A served query: mostly of few segments, and one in four of any number up to the greatest.
+/// A served query: mostly of few segments, one in eight of any number up to the greatest, and one in eight at a limit.
 fn served(random: &mut Random) -> Query {
     let segments = match random.below(8) {
         0 => 1 + random.below(256) as usize,
@@ -319,17 +319,18 @@ fn table(random: &mut Random, q: &Query) -> Vec<f64> {
     coefficients(&Build::random(random, q.order, q.segments + 1, q.axes).path().expect("the Rust builds it")).to_vec()
 }
 
-/// A call of ours: its number, and the buffers with their guard cells before and after it.
-fn run(q: &Query, mode: u8, table: &[f64]) -> (u32, Buffers<Vec<f64>>, Buffers<Vec<f64>>) {
+/// A call of ours: its number, the buffers with their guard cells before and after it, and whether the table is as it was.
+fn run(q: &Query, mode: u8, table: &[f64]) -> (u32, Buffers<Vec<f64>>, Buffers<Vec<f64>>, bool) {
+    let given = table.to_vec();
     let before = [0, 1, 2, 3].map(|k| guarded(k, q.lengths[k]));
     let mut after = before.clone();
     let number = ours(q, mode, table, after.each_mut().map(|list| lent(list)));
-    (number, before, after)
+    (number, before, after, kept(&given, table))
 }
 
 /// Counts a call that is served: every number that the level writes, and every other cell.
 fn count_query(count: &mut Count, q: &Query, mode: u8, table: &[f64]) -> bool {
-    let (number, mut expected, after) = run(q, mode, table);
+    let (number, mut expected, after, table_kept) = run(q, mode, table);
     let inner = GUARD..GUARD + q.axes;
     let mut found: Buffers<Vec<f64>> = [0, 1, 2, 3].map(|_| vec![0.0; q.axes]);
     theirs(&in_rust(q, table), nearest(q, q.s), q.level, found.each_mut().map(|list| &mut list[..]));
@@ -339,14 +340,13 @@ fn count_query(count: &mut Count, q: &Query, mode: u8, table: &[f64]) -> bool {
     }
     let pairs = || expected.iter().flatten().zip(after.iter().flatten());
     count.zeros += pairs().filter(|(&x, &y)| x == y && !same_bits(x, y)).count() as u64;
-    number == 0 && pairs().all(|(&x, &y)| alike(x, y))
+    number == 0 && table_kept && pairs().all(|(&x, &y)| alike(x, y))
 }
 
 fn count_refusal(count: &mut Count, q: &Query, mode: u8, table: &[f64], expected: u32) -> bool {
-    let (number, before, after) = run(q, mode, table);
-    let pairs = || before.iter().flatten().zip(after.iter().flatten());
-    count.numbers += pairs().count() as u64;
-    number == expected && pairs().all(|(&x, &y)| same_bits(x, y))
+    let (number, before, after, table_kept) = run(q, mode, table);
+    count.numbers += (table.len() + after.iter().map(|list| list.len()).sum::<usize>()) as u64;
+    number == expected && table_kept && before.iter().zip(&after).all(|(before, after)| kept(before, after))
 }
 
 fn describe(q: &Query) -> String {

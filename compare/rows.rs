@@ -107,6 +107,11 @@ pub fn alike(x: f64, y: f64) -> bool {
     x == y || same_bits(x, y)
 }
 
+/// Nothing was changed.
+pub fn kept(before: &[f64], after: &[f64]) -> bool {
+    before.iter().zip(after).all(|(x, y)| x.to_bits() == y.to_bits())
+}
+
 /// The same bits, or two NaNs.
 pub fn same_bits(x: f64, y: f64) -> bool {
     x.to_bits() == y.to_bits() || x.is_nan() && y.is_nan()

@@ -2,8 +2,10 @@
 //! solves in another way than document 01 has it. `compare/run` compiles it once for each way and runs it:
 //!
 //!   solving WAY   a row for each order: the way, builds, coefficients, how many of those differ, the greatest difference
-//!                 as a multiple of 2^-52 of the greatest coefficient of its axis, and the greatest distance half-way
-//!                 along a segment between the two curves, through points within 100 of 0
+//!                 as a multiple of 2^-52 of the greatest coefficient of its axis, and the greatest difference of a
+//!                 coordinate half-way along a segment, points within 100 of 0
+//!
+//! In document 01's own way, `document`, nothing may differ.
 
 use input::{diag, path, Build};
 use library::{from_waypoints_view, SplineConfig};
@@ -57,6 +59,7 @@ fn main() {
             builds += 1;
             cells += b.cells;
         }
+        assert!(way != "document" || differing == 0);
         println!("order {order}, {way}\t{builds}\t{cells}\t{differing}\t{greatest:.1}\t{distance:.1e}");
     }
 }

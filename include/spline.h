@@ -11,7 +11,8 @@
  * What the caller owes, since no proof can see it:
  * - a list is a pointer and a count of elements; the pointer is aligned for its type, and that many elements
  *   behind it can be read (and written, where it is not const). With a count of 0 it is not followed, and may be NULL;
- * - a buffer that is written overlaps nothing else that is passed in the same call;
+ * - inv_ds of spline_build points to a double that can be written, and is not NULL;
+ * - what is written overlaps nothing else that is passed in the same call;
  * - the processor rounds to nearest and keeps subnormal numbers, as every program starts out that is not linked
  *   with -ffast-math.
  */
@@ -45,8 +46,8 @@ enum {
     SPLINE_INVALID_RANGE = 301,
     /* An order other than 3, 5 and 7. */
     SPLINE_INVALID_ORDER = 302,
-    /* A state that is not axes by (order - 1) / 2, or has an unknown kind; in a query, coefficients that are not
-       axes * segments * (order + 1). */
+    /* A state that is not axes by (order - 1) / 2 with that many numbers, or has an unknown kind; in a query,
+       coefficients that are not axes * segments * (order + 1). */
     SPLINE_DIMENSION_MISMATCH = 303,
     /* Fewer than 2 points; in a query, no segment. */
     SPLINE_NOT_ENOUGH_WAYPOINTS = 304,
@@ -85,7 +86,8 @@ double spline_mul_add(double a, double b, double c);
  * the range s_min to s_max.
  *
  * waypoints     point after point, axis by axis in each: axes * points numbers
- * start, end    the states at both ends: a kind, and (order - 1) / 2 columns of one number an axis
+ * start, end    the states at both ends: a kind, and unless that is SPLINE_STATE_NONE axes rows and (order - 1) / 2
+ *               columns, with axes * (order - 1) / 2 numbers, column by column
  * mode          SPLINE_MODE_CLAMP, or anything else for SPLINE_MODE_ERROR. A build asks nothing of it; give the
  *               same one to spline_query
  * coefficients  filled with SPLINE_COEFFICIENTS(order, points, axes) numbers, by axis, then segment, then power
@@ -105,9 +107,15 @@ uint32_t spline_build(size_t order, size_t points, size_t axes,
                       double *inv_ds);
 
 /*
- * Position and derivatives at s of a curve that spline_build built: one number an axis into each buffer that the
- * level writes. Level 0 writes q (position); 2 also dq and ddq (first and second derivative by s); 3 also dddq (the
- * third). A buffer above the level may have any length and is left alone.
+ * Position and derivatives at s of a curve that spline_build built.
+ *
+ * segments               points - 1
+ * order .. inv_ds        as at the build, to the last bit
+ * mode                   SPLINE_MODE_CLAMP, or anything else for SPLINE_MODE_ERROR
+ * coefficients           what the build wrote, all of it
+ * q, dq, ddq, dddq       one number an axis into each buffer that the level writes. Level 0 writes q (position); 2 also
+ *                        dq and ddq (first and second derivative by s); 3 also dddq (the third). A buffer above the
+ *                        level may have any length and is left alone
  *
  * Answers SPLINE_OK, or a refusal number, one of 2, 300 to 305 and 308; then all four buffers hold what they held.
  */
