@@ -34,7 +34,7 @@ static void see(Seen *seen, int right, const char *what) {
     }
 }
 
-/* The first numbers of a list, up to the count, say that a call was served; the rest of the list are refusals. */
+/* Whether a call was served: the first `yes` of the function's numbers say so, and the others are refusals. */
 static int served(Seen *seen, uint32_t answer, const uint32_t *numbers, size_t count, size_t yes) {
     size_t at = 0;
     while (at < count && numbers[at] != answer)

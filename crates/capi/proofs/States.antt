@@ -1,5 +1,4 @@
 -- A state of an unknown kind fits nothing. Assumes nothing.
-use mathlib.Core.Path.{_≡_}
 use native.Mathlib.Omega.{arith}
 use borrow.Author.Tests.{ne-eqb}
 use Prim.Native.Nat.{_≤_}
