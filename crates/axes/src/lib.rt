@@ -5,37 +5,54 @@ ghost use mathlib.Core.Bool.{cond};
 ghost use Prim.Native.Nat.{_+_, _*_, _≤_, _<_};
 ghost use lib.ListN.{length};
 ghost use Rattle.nodes.specs.Kept.{Room};
-ghost use Rattle.segments.specs.Kept.{Matrices};
 ghost use Rattle.axes.specs.Axes.{Shared, Fillable, axisTable, allAxes, everyNode};
 use rules::BoundaryState;
+use segments::tables::BlockMatrices;
+
+// What a build goes by, its lists aside: m and the inner nodes, the axes, inv_ds, and both states.
+pub struct Plan {
+    pub m: usize,
+    pub n: usize,
+    pub axes: usize,
+    pub inv_ds: f64,
+    pub start_state: BoundaryState,
+    pub end_state: BoundaryState,
+}
 
 // One axis: the numbers of its first and last node, then its coefficients.
 fn fill_axis(
-    m: usize,
-    n: usize,
-    r: &[f64],
-    a: &[f64],
-    c: &[f64],
-    h_coeff: &[f64],
+    plan: Plan,
+    tables: BlockMatrices,
     entries: &[f64],
     rows: &[usize],
     solved_c: &[f64],
-    axes: usize,
     waypoints: &[f64],
-    inv_ds: f64,
-    start_state: BoundaryState,
     start: &[f64],
-    end_state: BoundaryState,
     end: &[f64],
     axis: usize,
-    ends: &mut [f64],
-    side: &mut [f64],
     solved: &mut [f64],
     chunk: &mut [f64],
 )
-    requires { ⌜ Shared m n (now r) (now a) (now c) (now «h_coeff») (now entries) (now rows) (now «solved_c») axes (now waypoints) «start_state» (now start) «end_state» (now end) × (axis < axes) × (length (now ends) ≡ m + m) × (length (now side) ≡ m) × (n * m ≤ length (now solved)) × (length (now chunk) ≡ (n + 1) * (2 * m + 2)) ⌝ }
-    ensures { λ x. ⌜ now (chunk .exit) ≡ axisTable m n axes (now (waypoints .entry)) «inv_ds» «start_state» (now (start .entry)) «end_state» (now (end .entry)) axis ⌝ }
+    requires { ⌜ Shared plan tables (now entries) (now rows) (now «solved_c») (now waypoints) (now start) (now end)
+        × (axis < plan .axes)
+        × (plan .n * plan .m ≤ length (now solved))
+        × (length (now chunk) ≡ (plan .n + 1) * (2 * plan .m + 2)) ⌝ }
+    ensures { λ x. ⌜ now (chunk .exit) ≡ axisTable plan (now (waypoints .entry)) (now (start .entry)) (now (end .entry)) axis ⌝ }
 {
+    let m = plan.m;
+    let n = plan.n;
+    let axes = plan.axes;
+    let inv_ds = plan.inv_ds;
+    let start_state = plan.start_state;
+    let end_state = plan.end_state;
+    let a = tables.a;
+    let c = tables.c;
+    let r = tables.r;
+    let h_coeff = tables.h_coeff;
+    let mm = m * m;
+    let width = (m + 1) * (1 + 2 * m);
+    let mut ends = [0.0; 6];
+    let mut side = [0.0; 3];
     segments::boundary::both_ends(
         m,
         axes,
@@ -45,23 +62,23 @@ fn fill_axis(
         end_state,
         end,
         axis,
-        ends,
+        &mut ends[0..m + m],
     );
     thomas::row::thomas_row(
         m,
         n,
-        r,
-        a,
-        c,
-        h_coeff,
+        &r[0..m * 2],
+        &a[0..mm],
+        &c[0..mm],
+        &h_coeff[0..width],
         entries,
         rows,
         solved_c,
         axes,
         waypoints,
         axis,
-        ends,
-        side,
+        &ends[0..m + m],
+        &mut side[0..m],
         solved,
         chunk,
     );
@@ -69,54 +86,37 @@ fn fill_axis(
 
 // All axes, one after the other, in the place of what the buffer held.
 fn fill_axes(
-    m: usize,
-    n: usize,
-    r: &[f64],
-    a: &[f64],
-    c: &[f64],
-    h_coeff: &[f64],
+    plan: Plan,
+    tables: BlockMatrices,
     entries: &[f64],
     rows: &[usize],
     solved_c: &[f64],
-    axes: usize,
     waypoints: &[f64],
-    inv_ds: f64,
-    start_state: BoundaryState,
     start: &[f64],
-    end_state: BoundaryState,
     end: &[f64],
-    ends: &mut [f64],
-    side: &mut [f64],
     solved: &mut [f64],
     coeffs: &mut [f64],
 )
-    requires { ⌜ Shared m n (now r) (now a) (now c) (now «h_coeff») (now entries) (now rows) (now «solved_c») axes (now waypoints) «start_state» (now start) «end_state» (now end) × (length (now ends) ≡ m + m) × (length (now side) ≡ m) × (n * m ≤ length (now solved)) × (length (now coeffs) ≡ axes * ((n + 1) * (2 * m + 2))) ⌝ }
-    ensures { λ x. ⌜ now (coeffs .exit) ≡ allAxes m n axes (now (waypoints .entry)) «inv_ds» «start_state» (now (start .entry)) «end_state» (now (end .entry)) ⌝ }
+    requires { ⌜ Shared plan tables (now entries) (now rows) (now «solved_c») (now waypoints) (now start) (now end)
+        × (plan .n * plan .m ≤ length (now solved))
+        × (length (now coeffs) ≡ plan .axes * ((plan .n + 1) * (2 * plan .m + 2))) ⌝ }
+    ensures { λ x. ⌜ now (coeffs .exit) ≡ allAxes plan (now (waypoints .entry)) (now (start .entry)) (now (end .entry)) ⌝ }
 {
-    let stride = (n + 1) * (2 * m + 2);
+    let stride = (plan.n + 1) * (2 * plan.m + 2);
+    let axes = plan.axes;
     let mut axis = 0;
     while axis < axes {
         let at = axis * stride;
         fill_axis(
-            m,
-            n,
-            r,
-            a,
-            c,
-            h_coeff,
+            plan,
+            tables,
             entries,
             rows,
             solved_c,
-            axes,
             waypoints,
-            inv_ds,
-            start_state,
             start,
-            end_state,
             end,
             axis,
-            ends,
-            side,
             solved,
             &mut coeffs[at..at + stride],
         );
@@ -127,53 +127,50 @@ fn fill_axes(
 // Question 10, and where it says yes the table: the nodes' matrices are factored once, for all axes, into
 // the lists that are lent for them, before the first cell is written.
 pub fn solve_general_thomas(
-    m: usize,
-    n: usize,
-    a: &[f64],
-    b: &[f64],
-    c: &[f64],
-    r: &[f64],
-    h_coeff: &[f64],
-    axes: usize,
+    plan: Plan,
     waypoints: &[f64],
-    inv_ds: f64,
-    start_state: BoundaryState,
     start: &[f64],
-    end_state: BoundaryState,
     end: &[f64],
     entries: &mut [f64],
     rows: &mut [usize],
     solved_c: &mut [f64],
-    ends: &mut [f64],
-    side: &mut [f64],
     solved: &mut [f64],
     coeffs: &mut [f64],
 ) -> bool
-    requires { ⌜ Fillable m n axes (now waypoints) «start_state» (now start) «end_state» (now end) (now coeffs) × Matrices m (now a) (now b) (now c) (now r) (now «h_coeff») × Room m n (now entries) (now rows) (now «solved_c») × (length (now ends) ≡ m + m) × (length (now side) ≡ m) × (n * m ≤ length (now solved)) ⌝ }
-    ensures { λ ok. ⌜ (ok ≡ everyNode m n) × (now (coeffs .exit) ≡ cond ok (allAxes m n axes (now (waypoints .entry)) «inv_ds» «start_state» (now (start .entry)) «end_state» (now (end .entry))) (now (coeffs .entry))) ⌝ }
+    requires { ⌜ Fillable plan (now waypoints) (now start) (now end) (now coeffs)
+        × Room (plan .m) (plan .n) (now entries) (now rows) (now «solved_c»)
+        × (plan .n * plan .m ≤ length (now solved)) ⌝ }
+    ensures { λ ok. ⌜ (ok ≡ everyNode (plan .m) (plan .n))
+        × (now (coeffs .exit) ≡ cond ok (allAxes plan (now (waypoints .entry)) (now (start .entry)) (now (end .entry))) (now (coeffs .entry))) ⌝ }
 {
-    if !nodes::factor_nodes(m, n, a, b, c, entries, rows, solved_c) {
-        return false;
-    }
-    fill_axes(
+    let m = plan.m;
+    let n = plan.n;
+    let tables = segments::tables::for_order(m);
+    let a = tables.a;
+    let b = tables.b;
+    let c = tables.c;
+    let mm = m * m;
+    if !nodes::factor_nodes(
         m,
         n,
-        r,
-        a,
-        c,
-        h_coeff,
+        &a[0..mm],
+        &b[0..mm],
+        &c[0..mm],
         entries,
         rows,
         solved_c,
-        axes,
+    ) {
+        return false;
+    }
+    fill_axes(
+        plan,
+        tables,
+        entries,
+        rows,
+        solved_c,
         waypoints,
-        inv_ds,
-        start_state,
         start,
-        end_state,
         end,
-        ends,
-        side,
         solved,
         coeffs,
     );

@@ -8,9 +8,9 @@ ghost use lib.ListN.{length};
 ghost use lib.Ieee.{binary64};
 ghost use Rattle.rules.specs.Fused.{fused};
 ghost use Rattle.rules.specs.Build.{invDs, buildNumber, bufferAfter};
-ghost use Rattle.rules.specs.Query.{queryNumber, derivativeAfter};
+ghost use Rattle.rules.specs.Query.{buffers, Queried};
 ghost use Rattle.rules.specs.Master.{setOf, checkMaster};
-ghost use Rattle.questions.specs.Input.{inputOf, queryOf, lengthsOf};
+ghost use Rattle.questions.specs.Input.{inputOf, queryOf};
 ghost use Rattle.capi.specs.Export.{stateOf, modeOf, configOf, pathOf, checkNumber};
 use rules::BoundaryState;
 use rules::MasterAnswer;
@@ -84,7 +84,12 @@ pub extern "C" fn spline_build(
     coeffs: &mut [f64],
     inv_ds: &mut f64,
 ) -> u32
-    ensures { λ r. ⌜ (let config = configOf order «s_min» «s_max» mode (stateOf «start_kind» «start_rows» «start_cols») (stateOf «end_kind» «end_rows» «end_cols») in let b = inputOf config points axes (now (waypoints .entry)) (now (start .entry)) (now (end .entry)) in let number = buildNumber b (length (now (coeffs .entry))) in (r ≡ number) × (now (coeffs .exit) ≡ bufferAfter b (now (coeffs .entry))) × (now («inv_ds» .exit) ≡ cond (eqb number 0) (invDs (points - 1) (config .«s_min») (config .«s_max»)) (now («inv_ds» .entry)))) ⌝ }
+    ensures { λ r. ⌜ (let config = configOf order «s_min» «s_max» mode (stateOf «start_kind» «start_rows» «start_cols») (stateOf «end_kind» «end_rows» «end_cols») in
+        let b = inputOf config points axes (now (waypoints .entry)) (now (start .entry)) (now (end .entry)) in
+        let number = buildNumber b (length (now (coeffs .entry))) in
+        (r ≡ number)
+        × (now (coeffs .exit) ≡ bufferAfter b (now (coeffs .entry)))
+        × (now («inv_ds» .exit) ≡ cond (eqb number 0) (invDs (points - 1) (config .«s_min») (config .«s_max»)) (now («inv_ds» .entry)))) ⌝ }
 {
     let config = SplineConfig {
         order,
@@ -120,7 +125,10 @@ pub extern "C" fn spline_query(
     ddq: &mut [f64],
     dddq: &mut [f64],
 ) -> u32
-    ensures { λ r. ⌜ (let i = queryOf (pathOf order segments axes «s_min» «s_max» «inv_ds» mode) (now (coeffs .entry)) (record { 0 = s }) level in let n = lengthsOf (now (q .entry)) (now (dq .entry)) (now (ddq .entry)) (now (dddq .entry)) in (r ≡ queryNumber i n) × (now (q .exit) ≡ derivativeAfter i n 0 (now (q .entry))) × (now (dq .exit) ≡ derivativeAfter i n 1 (now (dq .entry))) × (now (ddq .exit) ≡ derivativeAfter i n 2 (now (ddq .entry))) × (now (dddq .exit) ≡ derivativeAfter i n 3 (now (dddq .entry)))) ⌝ }
+    ensures { λ r. ⌜ Queried (queryOf (pathOf order segments axes «s_min» «s_max» «inv_ds» mode) (now (coeffs .entry)) (record { 0 = s }) level)
+        (buffers (now (q .entry)) (now (dq .entry)) (now (ddq .entry)) (now (dddq .entry)))
+        r
+        (buffers (now (q .exit)) (now (dq .exit)) (now (ddq .exit)) (now (dddq .exit))) ⌝ }
 {
     let path = PathRecord {
         order,

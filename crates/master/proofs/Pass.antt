@@ -8,7 +8,7 @@ use native.Mathlib.Nat.{eq-or-lt-of-le}
 use native.Mathlib.Omega.{arith}
 use lib.Dec.{T, eqb, eqb→eq, leb→le}
 use lib.IntN.{ℤ}
-use lib.ListN.{length, take}
+use lib.ListN.{length}
 use lib.Ieee.Fits.{and-i, and-l, and-r}
 use borrow.Author.Tests.{eq-eqb, ne-eqb}
 use Rattle.rules.specs.declared.MasterAnswer.the-variants.{Refused}
@@ -16,7 +16,7 @@ use Rattle.rules.specs.Lists.{all, every}
 use Rattle.rules.specs.Questions.{Question, ask, firstNo}
 use Rattle.rules.specs.Tables.{mOf}
 use Rattle.rules.specs.Master.{MasterSet, Equations, within, same, at, coefficient, atEnd, segments, meetsStart}
-use Rattle.rules.specs.Master.{MasterSays, masterQuestions, masterNumber, masterSays, endpointEquations, jointEquations, checkMaster}
+use Rattle.rules.specs.Master.{MasterSays, masterQuestions, shapeQuestions, numberQuestions, masterNumber, masterSays, endpointEquations, jointEquations, checkMaster}
 use Rattle.rounding.proofs.Sums.{same-test}
 use Rattle.rules.proofs.Lists.{every-at, every-of}
 use Rattle.rules.proofs.Build.{by-order, coefficient-count}
@@ -39,13 +39,13 @@ in-halves (ask false n ∷ qs) a b h = sym (ap (λ (t : Bool). cond t (cond b 0 
 
 -- the number of all questions, by that of the questions but for the table's numbers
 pub number-is : (s : MasterSet) → masterNumber s ≡ (let n = firstNo (questionsBefore s) in cond (eqb n 0) (cond (all within (s .table)) 0 4) n)
-unfolding masterNumber masterQuestions questionsBefore
+unfolding masterNumber masterQuestions shapeQuestions numberQuestions questionsBefore
 number-is s =
-    in-halves (take 6 (masterQuestions s)) (all within (s .waypoints) && all within (s .start) && all within (s .end)) (all within (s .table)) tt
+    in-halves (shapeQuestions s) (all within (s .waypoints) && all within (s .start) && all within (s .end)) (all within (s .table)) tt
 
 -- where those say yes, the lengths are as they have to be
 pub shaped : (s : MasterSet) → firstNo (questionsBefore s) ≡ 0 → Shaped (mOf (s .order)) (s .waypoints) (s .start) (s .end) (s .table)
-unfolding questionsBefore masterQuestions
+unfolding questionsBefore masterQuestions shapeQuestions numberQuestions
 shaped s e =
     let yes : (k : ℕ) → T (answerAt (questionsBefore s) k) = said-yes (questionsBefore s) tt e in
     let m-bounds = by-order (λ order. (1 ≤ mOf order) × (mOf order ≤ 3)) (omega arith, omega arith) (omega arith, omega arith) (omega arith, omega arith) (s .order) (yes 0) in

@@ -5,17 +5,17 @@ use mathlib.Core.Bool.{Bool, not, cond, _&&_}
 use mathlib.Core.List.{List, [], _∷_, _++_}
 use Prim.Native.Nat.{ℕ, _+_, _-_, _*_, _≤_}
 use lib.IntN.{ℤ}
-use lib.ListN.{length, take}
+use lib.ListN.{length}
 use Rattle.rules.specs.Lists.{all, every}
 use Rattle.rules.specs.Questions.{Question, ask}
-use Rattle.rules.specs.Master.{MasterSet, MasterSays, masterQuestions, within, meetsStart}
+use Rattle.rules.specs.Master.{MasterSet, MasterSays, shapeQuestions, within, meetsStart}
 use Rattle.equations.specs.Segment.{segmentMeets}
 
 -- ---- the questions
 
 -- the last question is asked of all but the table
 unfoldable pub questionsBefore : MasterSet → List Question
-questionsBefore s = take 6 (masterQuestions s) ++ (ask (all within (s .waypoints) && all within (s .start) && all within (s .end)) 4 ∷ [])
+questionsBefore s = shapeQuestions s ++ (ask (all within (s .waypoints) && all within (s .start) && all within (s .end)) 4 ∷ [])
 
 -- ---- all segments
 

@@ -2,8 +2,8 @@
 // function is thin and takes any operands; the work is the query's. The borrow checker covers no function over
 // a struct that holds a reference, so each is proved by hand; whoever calls `eval_path` needs no such proof.
 ghost use mathlib.Core.Path.{_≡_};
-ghost use Rattle.rules.specs.Query.{queryNumber, derivativeAfter};
-ghost use Rattle.questions.specs.Input.{queryOf, lengthsOf};
+ghost use Rattle.rules.specs.Query.{buffers, Queried};
+ghost use Rattle.questions.specs.Input.{queryOf};
 use rules::PathParam;
 use rules::PathRecord;
 
@@ -30,7 +30,10 @@ impl<'a> SplinePath<'a> {
         ddq: &mut [f64],
         dddq: &mut [f64],
     ) -> u32
-        ensures { λ r. ⌜ (let i = queryOf (self .entry .path) (now (self .entry .coeffs)) s level in let n = lengthsOf (now (q .entry)) (now (dq .entry)) (now (ddq .entry)) (now (dddq .entry)) in (r ≡ queryNumber i n) × (now (q .exit) ≡ derivativeAfter i n 0 (now (q .entry))) × (now (dq .exit) ≡ derivativeAfter i n 1 (now (dq .entry))) × (now (ddq .exit) ≡ derivativeAfter i n 2 (now (ddq .entry))) × (now (dddq .exit) ≡ derivativeAfter i n 3 (now (dddq .entry)))) ⌝ }
+        ensures { λ r. ⌜ Queried (queryOf (self .entry .path) (now (self .entry .coeffs)) s level)
+            (buffers (now (q .entry)) (now (dq .entry)) (now (ddq .entry)) (now (dddq .entry)))
+            r
+            (buffers (now (q .exit)) (now (dq .exit)) (now (ddq .exit)) (now (dddq .exit))) ⌝ }
     {
         query::eval_at(self.path, self.coeffs, s, level, q, dq, ddq, dddq)
     }
@@ -47,7 +50,10 @@ pub fn eval_path(
     ddq: &mut [f64],
     dddq: &mut [f64],
 ) -> u32
-    ensures { λ r. ⌜ (let i = queryOf path (now (coeffs .entry)) s level in let n = lengthsOf (now (q .entry)) (now (dq .entry)) (now (ddq .entry)) (now (dddq .entry)) in (r ≡ queryNumber i n) × (now (q .exit) ≡ derivativeAfter i n 0 (now (q .entry))) × (now (dq .exit) ≡ derivativeAfter i n 1 (now (dq .entry))) × (now (ddq .exit) ≡ derivativeAfter i n 2 (now (ddq .entry))) × (now (dddq .exit) ≡ derivativeAfter i n 3 (now (dddq .entry)))) ⌝ }
+    ensures { λ r. ⌜ Queried (queryOf path (now (coeffs .entry)) s level)
+        (buffers (now (q .entry)) (now (dq .entry)) (now (ddq .entry)) (now (dddq .entry)))
+        r
+        (buffers (now (q .exit)) (now (dq .exit)) (now (ddq .exit)) (now (dddq .exit))) ⌝ }
 {
     SplinePath::new(path, coeffs).eval_at(s, level, q, dq, ddq, dddq)
 }

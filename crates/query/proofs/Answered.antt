@@ -2,12 +2,12 @@
 -- Assumes nothing.
 use mathlib.Core.Path.{_≡_, refl, sym, ap, _∙_}
 use mathlib.Core.Bool.{Bool, true, false, cond, _&&_}
-use mathlib.Core.List.{List, []}
+use mathlib.Core.List.{List, [], _++_}
 use Prim.Native.Nat.{ℕ, _<_, _≤_}
 use native.Mathlib.Omega.{arith}
 use borrow.Author.Tests.{le-leb, ne-eqb}
 use lib.Dec.{T, leb, eqb, leb→le, eqb→eq}
-use lib.ListN.{take}
+use lib.ListN.{length}
 use lib.Ieee.{Float, eq, le}
 use lib.Ieee.Fits.{and-r}
 use Rattle.rules.specs.declared.PathParam.{PathParam}
@@ -15,9 +15,9 @@ use Rattle.rules.specs.declared.PathRecord.{PathRecord}
 use Rattle.rules.specs.declared.SegmentUnits.{SegmentUnits}
 use Rattle.rules.specs.declared.Lookup.the-variants.{At, OutOfRange}
 use Rattle.rules.specs.Floats.{+0, ofCount}
-use Rattle.rules.specs.Questions.{firstNo}
+use Rattle.rules.specs.Questions.{Question, firstNo}
 use Rattle.rules.specs.Build.{validAxes, validRange, invDs}
-use Rattle.rules.specs.Query.{QueryInput, Lengths, writes, inRange, clamped, scaled, located, lookup, LookupSays, lookupSays, evalPoly, perUnitOfS, segmentOf, queryQuestions, queryNumber, derivative, derivativeAfter}
+use Rattle.rules.specs.Query.{QueryInput, Lengths, writes, inRange, clamped, scaled, located, lookup, LookupSays, lookupSays, evalPoly, perUnitOfS, segmentOf, queryQuestions, pathQuestions, bufferQuestions, rangeQuestions, queryNumber, derivative, derivativeAfter}
 use Rattle.rules.specs.Lists.{listed}
 use Rattle.rules.proofs.Query.{long-enough}
 use Rattle.rules.proofs.Questions.{answerAt, said-yes, first-no, first-yes, yes-to, no-to}
@@ -77,20 +77,23 @@ module _ (p : PathRecord) (s : PathParam) where
 
 module _ (i : QueryInput) (n : Lengths) where
   -- all questions but the last
+  abbrev firsts : List Question
+  firsts = pathQuestions (i .path) (length (i .coefficients)) ++ bufferQuestions (i .path .axes) (i .level) n
+
   abbrev pub asked : ℕ
-  asked = firstNo (take 8 (queryQuestions i n))
+  asked = firstNo firsts
 
   pub no-number : (asked ≡ 0 → ⊥) → queryNumber i n ≡ asked
-  unfolding queryNumber
-  no-number h = first-no 8 (queryQuestions i n) h
+  unfolding queryNumber queryQuestions
+  no-number h = first-no firsts _ h
 
   pub range-number : asked ≡ 0 → range (i .path) (i .s) ≡ false → queryNumber i n ≡ 305
-  unfolding queryNumber queryQuestions
-  range-number e r = first-yes 8 (queryQuestions i n) tt e ∙ no-to _ r
+  unfolding queryNumber queryQuestions pathQuestions bufferQuestions rangeQuestions
+  range-number e r = first-yes firsts (rangeQuestions (i .path) (i .s)) tt e ∙ no-to _ r
 
   pub yes-number : asked ≡ 0 → range (i .path) (i .s) ≡ true → queryNumber i n ≡ 0
-  unfolding queryNumber queryQuestions firstNo
-  yes-number e r = first-yes 8 (queryQuestions i n) tt e ∙ yes-to 305 [] r
+  unfolding queryNumber queryQuestions pathQuestions bufferQuestions rangeQuestions firstNo
+  yes-number e r = first-yes firsts (rangeQuestions (i .path) (i .s)) tt e ∙ yes-to 305 [] r
 
   pub refused : (number : ℕ) → (number ≡ 0 → ⊥) → queryNumber i n ≡ number → (k : ℕ) (before : List Float) → derivativeAfter i n k before ≡ before
   unfolding derivativeAfter
@@ -103,17 +106,17 @@ module _ (i : QueryInput) (n : Lengths) where
   -- ---- what the evaluation may rely on, where all those questions say yes
 
   module _ (e : asked ≡ 0) where
-    answered : (k : ℕ) → T (answerAt (take 8 (queryQuestions i n)) k)
-    unfolding queryQuestions
-    answered = said-yes (take 8 (queryQuestions i n)) tt e
+    answered : (k : ℕ) → T (answerAt (firsts) k)
+    unfolding queryQuestions pathQuestions bufferQuestions rangeQuestions
+    answered = said-yes (firsts) tt e
 
     pub segments-known : let p = i .path in
         (1 ≤ p .segments) × (p .segments ≤ 256) × T (validRange (p .segments) (p .«s_min») (p .«s_max») && eq (p .«inv_ds») (invDs (p .segments) (p .«s_min») (p .«s_max»)))
-    unfolding queryQuestions
+    unfolding queryQuestions pathQuestions bufferQuestions rangeQuestions
     segments-known = (leb→le 1 _ (answered 1), leb→le _ 256 (answered 2), answered 4)
 
     pub evaluable : (segment : ℕ) → segment < i .path .segments → Evaluable (i .path) (i .coefficients) segment (i .level) n
-    unfolding queryQuestions validAxes
+    unfolding queryQuestions pathQuestions bufferQuestions rangeQuestions validAxes
     evaluable segment l = record {
       order = answered 0;
       few-axes = leb→le (i .path .axes) 8 (and-r (leb 1 (i .path .axes)) _ (answered 3));

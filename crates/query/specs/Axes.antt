@@ -9,7 +9,7 @@ use lib.Ieee.{Float}
 use Rattle.rules.specs.declared.PathRecord.{PathRecord}
 use Rattle.rules.specs.Lists.{listed}
 use Rattle.rules.specs.Build.{validOrder, tableLength}
-use Rattle.rules.specs.Query.{Lengths, validLevel, writes, evalPoly, perUnitOfS, segmentOf}
+use Rattle.rules.specs.Query.{Lengths, Buffers, validLevel, writes, evalPoly, perUnitOfS, segmentOf}
 
 -- what the questions and the lookup have found out
 pub record Evaluable (p : PathRecord) (coefficients : List Float) (segment level : ℕ) (n : Lengths) : Type 0 where
@@ -30,8 +30,8 @@ derivativeAt p coefficients segment t k =
     listed (p .axes) (λ axis. perUnitOfS (p .«inv_ds») k (evalPoly (p .order) (segmentOf p coefficients axis segment) t k))
 
 -- the four buffers afterwards: derivative k of each axis where the level writes it, and else what was there
-pub record Evaluated (p : PathRecord) (coefficients : List Float) (segment : ℕ) (t : Float) (level : ℕ) (q₀ dq₀ ddq₀ dddq₀ q dq ddq dddq : List Float) : Type 0 where
-  pub is-q : q ≡ derivativeAt p coefficients segment t 0
-  pub is-dq : dq ≡ cond (writes level 1) (derivativeAt p coefficients segment t 1) dq₀
-  pub is-ddq : ddq ≡ cond (writes level 2) (derivativeAt p coefficients segment t 2) ddq₀
-  pub is-dddq : dddq ≡ cond (writes level 3) (derivativeAt p coefficients segment t 3) dddq₀
+pub record Evaluated (p : PathRecord) (coefficients : List Float) (segment : ℕ) (t : Float) (level : ℕ) (before after : Buffers) : Type 0 where
+  pub is-q : after .q ≡ derivativeAt p coefficients segment t 0
+  pub is-dq : after .dq ≡ cond (writes level 1) (derivativeAt p coefficients segment t 1) (before .dq)
+  pub is-ddq : after .ddq ≡ cond (writes level 2) (derivativeAt p coefficients segment t 2) (before .ddq)
+  pub is-dddq : after .dddq ≡ cond (writes level 3) (derivativeAt p coefficients segment t 3) (before .dddq)

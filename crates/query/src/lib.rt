@@ -4,8 +4,8 @@ ghost use mathlib.Core.Path.{_≡_};
 ghost use mathlib.Core.Bool.{true, cond};
 ghost use Prim.Native.Nat.{_<_};
 ghost use lib.ListN.{length, set};
-ghost use Rattle.rules.specs.Query.{writes, queryNumber, derivativeAfter};
-ghost use Rattle.questions.specs.Input.{queryOf, lengthsOf};
+ghost use Rattle.rules.specs.Query.{writes, buffers, lengthsOf, Queried};
+ghost use Rattle.questions.specs.Input.{queryOf};
 ghost use Rattle.query.specs.Axes.{Evaluable, Evaluated};
 use lookup::segment_tau;
 use poly::eval_poly;
@@ -40,8 +40,10 @@ fn eval_axes(
     ddq: &mut [f64],
     dddq: &mut [f64],
 )
-    requires { ⌜ Evaluable path (now coeffs) segment level (lengthsOf (now q) (now dq) (now ddq) (now dddq)) ⌝ }
-    ensures { λ r. ⌜ Evaluated path (now (coeffs .entry)) segment (tau .0) level (now (q .entry)) (now (dq .entry)) (now (ddq .entry)) (now (dddq .entry)) (now (q .exit)) (now (dq .exit)) (now (ddq .exit)) (now (dddq .exit)) ⌝ }
+    requires { ⌜ Evaluable path (now coeffs) segment level (lengthsOf (buffers (now q) (now dq) (now ddq) (now dddq))) ⌝ }
+    ensures { λ r. ⌜ Evaluated path (now (coeffs .entry)) segment (tau .0) level
+        (buffers (now (q .entry)) (now (dq .entry)) (now (ddq .entry)) (now (dddq .entry)))
+        (buffers (now (q .exit)) (now (dq .exit)) (now (ddq .exit)) (now (dddq .exit))) ⌝ }
 {
     let order = path.order;
     let segments = path.segments;
@@ -74,7 +76,10 @@ pub fn eval_at(
     ddq: &mut [f64],
     dddq: &mut [f64],
 ) -> u32
-    ensures { λ r. ⌜ (let i = queryOf path (now (coeffs .entry)) s level in let n = lengthsOf (now (q .entry)) (now (dq .entry)) (now (ddq .entry)) (now (dddq .entry)) in (r ≡ queryNumber i n) × (now (q .exit) ≡ derivativeAfter i n 0 (now (q .entry))) × (now (dq .exit) ≡ derivativeAfter i n 1 (now (dq .entry))) × (now (ddq .exit) ≡ derivativeAfter i n 2 (now (ddq .entry))) × (now (dddq .exit) ≡ derivativeAfter i n 3 (now (dddq .entry)))) ⌝ }
+    ensures { λ r. ⌜ Queried (queryOf path (now (coeffs .entry)) s level)
+        (buffers (now (q .entry)) (now (dq .entry)) (now (ddq .entry)) (now (dddq .entry)))
+        r
+        (buffers (now (q .exit)) (now (dq .exit)) (now (ddq .exit)) (now (dddq .exit))) ⌝ }
 {
     let number = questions::query_questions(
         path,

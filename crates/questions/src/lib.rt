@@ -4,17 +4,14 @@
 // questions before a query, all but the last, which the lookup answers; see the crate `query`.
 ghost use mathlib.Core.Path.{_≡_};
 ghost use mathlib.Core.Bool.{_&&_};
-ghost use mathlib.Core.List.{List};
+ghost use mathlib.Core.List.{_++_};
 ghost use Prim.Native.Nat.{_≤_};
-ghost use lib.ListN.{length, take};
-ghost use lib.Ieee.{Float};
 ghost use Rattle.rules.specs.Floats.{finite};
 ghost use Rattle.rules.specs.Lists.{all};
 ghost use Rattle.rules.specs.Questions.{firstNo};
-ghost use Rattle.rules.specs.Build.{validOrder, validState, validRange, invDs, finiteState, buildQuestions};
-ghost use Rattle.rules.specs.Query.{validLevel, validLength, queryQuestions};
-ghost use Rattle.rules.specs.declared.PathParam as Declared;
-ghost use Rattle.questions.specs.Input.{inputOf, queryOf};
+ghost use Rattle.rules.specs.Build.{validOrder, validState, validRange, invDs, finiteState, inputQuestions};
+ghost use Rattle.rules.specs.Query.{validLevel, validLength, pathQuestions, bufferQuestions};
+ghost use Rattle.questions.specs.Input.{inputOf};
 use rules::BoundaryState;
 use rules::PathParam;
 use rules::PathRecord;
@@ -113,8 +110,7 @@ fn finite_state(state: BoundaryState, numbers: &[f64]) -> bool
     }
 }
 
-// The number of the first no, and 0 where all nine say yes. Question 6 is asked of both states, so the
-// nine are the first ten of the definition's list.
+// The number of the first no, and 0 where all nine say yes.
 pub fn build_questions(
     config: SplineConfig,
     points: usize,
@@ -124,7 +120,7 @@ pub fn build_questions(
     end: &[f64],
     cells: usize,
 ) -> u32
-    ensures { λ r. ⌜ r ≡ firstNo (take 10 (buildQuestions (inputOf config points axes (now (waypoints .entry)) (now (start .entry)) (now (end .entry))) cells)) ⌝ }
+    ensures { λ r. ⌜ r ≡ firstNo (inputQuestions (inputOf config points axes (now (waypoints .entry)) (now (start .entry)) (now (end .entry))) cells) ⌝ }
 {
     let order = config.order;
     let start_state = config.start_state;
@@ -214,7 +210,7 @@ fn valid_lengths(axes: usize, level: u8, q: usize, dq: usize, ddq: usize, dddq: 
     valid_length(axes, level, 3, dddq)
 }
 
-// The number of the first no, and 0 where all but the last question say yes, whatever s and the coefficients are.
+// The number of the first no, and 0 where all but the last question say yes.
 pub fn query_questions(
     path: PathRecord,
     cells: usize,
@@ -224,7 +220,7 @@ pub fn query_questions(
     ddq: usize,
     dddq: usize,
 ) -> u32
-    ensures { λ r. ⌜ ((coefficients : List Float) (s : Declared.PathParam) → length coefficients ≡ cells → r ≡ firstNo (take 8 (queryQuestions (queryOf path coefficients s level) (record { q = q; dq = dq; ddq = ddq; dddq = dddq })))) ⌝ }
+    ensures { λ r. ⌜ r ≡ firstNo (pathQuestions path cells ++ bufferQuestions (path .axes) level (record { q = q; dq = dq; ddq = ddq; dddq = dddq })) ⌝ }
 {
     let order = path.order;
     let segments = path.segments;

@@ -9,13 +9,13 @@ use Rattle.rules.specs.Fused.{exactProduct, fused}
 use Rattle.rules.specs.Tables.{m1, m2, m3, forOrder}
 use Rattle.rules.specs.Solve.{matrix, times, minus, pivotRow, exchange, exchanged, eliminated, factorSteps, factor, nonzeroPivots}
 use Rattle.rules.specs.Solve.{forward, backward, solve, column, solveMatrix, nodeMatrix, nodeFactors, solvedC}
-use Rattle.rules.specs.Build.{validOrder, validAxes, validState, invDs, validRange, finiteState, everyPivot, buildQuestions, buildNumber}
+use Rattle.rules.specs.Build.{validOrder, validAxes, validState, invDs, validRange, finiteState, everyPivot, buildQuestions, inputQuestions, pivotQuestions, buildNumber}
 use Rattle.rules.specs.Build.{acceptedRecord, refusedRecord, buildAnswer, dy, upperCoefficient, segmentCoefficients, rightSide, boundedSide, solvedSide}
 use Rattle.rules.specs.Build.{innerNumbers, nodeNumbers, axisCoefficients, divided, boundaryNumber, axisWaypoints, axisState, table, bufferAfter}
-use Rattle.rules.specs.Query.{validLevel, inRange, queryQuestions, queryNumber, clamped, scaled, wholePart, exactRest, located, lookup, lookupSays}
+use Rattle.rules.specs.Query.{validLevel, inRange, queryQuestions, pathQuestions, bufferQuestions, rangeQuestions, queryNumber, clamped, scaled, wholePart, exactRest, located, lookup, lookupSays}
 use Rattle.rules.specs.Query.{derivativeFactor, term, fusedSteps, fusedDerivative, generalLoop, loopDerivative, evalPoly, perUnitOfS, segmentOf}
 use Rattle.rules.specs.Query.{derivative, derivativeAfter}
-use Rattle.rules.specs.Master.{within, masterQuestions, masterNumber, binomial, sumℤ, atEnd, same, meetsLeft, meetsRight, meetsStart, meetsEnd, meetsJoints}
+use Rattle.rules.specs.Master.{within, masterQuestions, shapeQuestions, numberQuestions, masterNumber, binomial, sumℤ, atEnd, same, meetsLeft, meetsRight, meetsStart, meetsEnd, meetsJoints}
 use Rattle.rules.specs.Master.{endpointEquations, jointEquations, checkMaster}
 use Rattle.rules.specs.Pieces.{holds, input, buildOf, exactly, alike, allAlike, tableOf, queryOf, oneEach, curve, atRest, starting, setOfD, greatest, starred, further}
 
@@ -24,12 +24,12 @@ unfolding holds input buildOf exactly alike allAlike tableOf queryOf oneEach cur
     add sub mul div neg lt eq le ofInt isNan toBits sumOf joined listed all every firstNo exactProduct fused m1 m2 m3 forOrder
     matrix times minus pivotRow exchange exchanged eliminated factorSteps factor nonzeroPivots
     forward backward solve column solveMatrix nodeMatrix nodeFactors solvedC
-    validOrder validAxes validState invDs validRange finiteState everyPivot buildQuestions buildNumber
+    validOrder validAxes validState invDs validRange finiteState everyPivot buildQuestions inputQuestions pivotQuestions buildNumber
     acceptedRecord refusedRecord buildAnswer dy upperCoefficient segmentCoefficients rightSide boundedSide solvedSide
     innerNumbers nodeNumbers axisCoefficients divided boundaryNumber axisWaypoints axisState table bufferAfter
-    validLevel inRange queryQuestions queryNumber clamped scaled wholePart exactRest located lookup lookupSays
+    validLevel inRange queryQuestions pathQuestions bufferQuestions rangeQuestions queryNumber clamped scaled wholePart exactRest located lookup lookupSays
     derivativeFactor term fusedSteps fusedDerivative generalLoop loopDerivative evalPoly perUnitOfS segmentOf derivative derivativeAfter
-    within masterQuestions masterNumber binomial sumℤ atEnd same meetsLeft meetsRight meetsStart meetsEnd meetsJoints
+    within masterQuestions shapeQuestions numberQuestions masterNumber binomial sumℤ atEnd same meetsLeft meetsRight meetsStart meetsEnd meetsJoints
     endpointEquations jointEquations checkMaster
 both = (tt, tt)
 

@@ -12,7 +12,7 @@ use lib.Ieee.Fits.{and-l, and-r}
 use Rattle.rules.specs.Floats.{_!_}
 use Rattle.rules.specs.Tables.{mOf}
 use Rattle.rules.specs.Build.{BuildInput, validOrder, acceptedRecord, dy, segmentCoefficients, nodeNumbers, axisCoefficients, axisWaypoints, axisState, table}
-use Rattle.rules.specs.Query.{QueryInput, Lengths, writes, validLength, queryQuestions, queryNumber, segmentOf, derivative, derivativeAfter}
+use Rattle.rules.specs.Query.{QueryInput, Lengths, writes, validLength, queryQuestions, pathQuestions, bufferQuestions, rangeQuestions, queryNumber, segmentOf, derivative, derivativeAfter}
 use Rattle.rules.proofs.Lists.{length-listed, joined-twice}
 use Rattle.rules.proofs.Questions.{said-yes}
 use Rattle.rules.proofs.Build.{coefficient-count, length-segment, length-node, length-state}
@@ -36,7 +36,7 @@ module _ (i : QueryInput) (n : Lengths) where
   three = two && valid 2 (n .ddq)
 
   asked : queryNumber i n ≡ 0 → T (three && valid 3 (n .dddq))
-  unfolding queryNumber queryQuestions
+  unfolding queryNumber queryQuestions pathQuestions bufferQuestions rangeQuestions
   asked e = said-yes (queryQuestions i n) tt e 7
 
   each : T (three && valid 3 (n .dddq)) → (k : ℕ) → k ≤ 3 → T (valid k (lengthOf n k))

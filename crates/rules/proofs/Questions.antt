@@ -1,12 +1,11 @@
 -- The answer 0 means a yes to every question: `said-yes`, at the place of a question in its list. What the first question's answer gives:
--- `yes-to`, `no-to`. What the first k give: `first-no`, where one of them says no, and `first-yes`, where none does. What holds of
+-- `yes-to`, `no-to`. What the first of two lists gives: `first-no`, where one of its questions says no, and `first-yes`, where none does. What holds of
 -- 0 and of every question's number holds of the answer: `answer-passes`. Assumes nothing.
 use mathlib.Core.Path.{_≡_, refl, sym, subst}
 use mathlib.Core.Bool.{Bool, true, false, not, _&&_}
-use mathlib.Core.List.{List, [], _∷_}
+use mathlib.Core.List.{List, [], _∷_, _++_}
 use Prim.Native.Nat.{ℕ, zero, suc}
 use lib.Dec.{T, eqb, eqb-refl, T-not}
-use lib.ListN.{take, drop}
 use lib.Ieee.Fits.{and-l, and-r}
 use Rattle.rules.specs.Questions.{Question, ask, firstNo}
 
@@ -52,17 +51,15 @@ pub no-to : {b : Bool} {n : ℕ} (rest : List Question) → b ≡ false → firs
 unfolding firstNo
 no-to rest e = rw e
 
--- the first k questions: one that says no decides, and else the rest does
-pub first-no : (k : ℕ) (qs : List Question) → (firstNo (take k qs) ≡ 0 → ⊥) → firstNo qs ≡ firstNo (take k qs)
+-- questions, and more behind them: one that says no decides, and else the others do
+pub first-no : (qs others : List Question) → (firstNo qs ≡ 0 → ⊥) → firstNo (qs ++ others) ≡ firstNo qs
 unfolding firstNo
-first-no zero qs h = absurd (h refl)
-first-no (suc k) [] h = refl
-first-no (suc k) (ask true n ∷ rest) h = first-no k rest h
-first-no (suc k) (ask false n ∷ rest) h = refl
+first-no [] others h = absurd (h refl)
+first-no (ask true n ∷ rest) others h = first-no rest others h
+first-no (ask false n ∷ rest) others h = refl
 
-pub first-yes : (k : ℕ) (qs : List Question) → T (numbered (take k qs)) → firstNo (take k qs) ≡ 0 → firstNo qs ≡ firstNo (drop k qs)
+pub first-yes : (qs others : List Question) → T (numbered qs) → firstNo qs ≡ 0 → firstNo (qs ++ others) ≡ firstNo others
 unfolding firstNo
-first-yes zero qs h e = refl
-first-yes (suc k) [] h e = refl
-first-yes (suc k) (ask true n ∷ rest) h e = first-yes k rest (and-r (not (eqb n 0)) (numbered (take k rest)) h) e
-first-yes (suc k) (ask false n ∷ rest) h e = absurd (never n (numbered (take k rest)) h e)
+first-yes [] others h e = refl
+first-yes (ask true n ∷ rest) others h e = first-yes rest others (and-r (not (eqb n 0)) (numbered rest) h) e
+first-yes (ask false n ∷ rest) others h e = absurd (never n (numbered rest) h e)

@@ -64,9 +64,9 @@ finiteState (Given rows columns perUnit) numbers = all finite numbers
 unfoldable pub everyPivot : ℕ → ℕ → Bool
 everyPivot m points = every (points - 2) (λ i. nonzeroPivots m (nodeFactors m i))
 
--- the questions about a build into a buffer of so many cells, in order
-unfoldable pub buildQuestions : BuildInput → ℕ → List Question
-buildQuestions b cells =
+-- the questions about what a build is given, into a buffer of so many cells, in order
+unfoldable pub inputQuestions : BuildInput → ℕ → List Question
+inputQuestions b cells =
     let cfg = b .config in
     let m = mOf (cfg .order) in
     let segments = b .points - 1 in
@@ -79,8 +79,15 @@ buildQuestions b cells =
     ask (validState (b .axes) m (cfg .«end_state») (b .end)) 303 ∷
     ask (eqb cells (tableLength (b .axes) segments (cfg .order))) 2 ∷  -- 7
     ask (validRange segments (cfg .«s_min») (cfg .«s_max»)) 301 ∷  -- 8
-    ask (all finite (b .waypoints) && finiteState (cfg .«start_state») (b .start) && finiteState (cfg .«end_state») (b .end)) 4 ∷  -- 9
-    ask (everyPivot m (b .points)) 307 ∷ []  -- 10
+    ask (all finite (b .waypoints) && finiteState (cfg .«start_state») (b .start) && finiteState (cfg .«end_state») (b .end)) 4 ∷ []  -- 9
+
+-- about what factoring finds
+unfoldable pub pivotQuestions : BuildInput → List Question
+pivotQuestions b = ask (everyPivot (mOf (b .config .order)) (b .points)) 307 ∷ []  -- 10
+
+-- all questions before a build
+unfoldable pub buildQuestions : BuildInput → ℕ → List Question
+buildQuestions b cells = inputQuestions b cells ++ pivotQuestions b
 
 unfoldable pub buildNumber : BuildInput → ℕ → ℕ
 buildNumber b cells = firstNo (buildQuestions b cells)

@@ -3,7 +3,7 @@
 use mathlib.Core.Path.{_≡_}
 use Prim.Native.Nat.{ℕ, zero, suc, _+_, _*_, _-_, _^_, _<_}
 use mathlib.Core.Bool.{Bool, true, false, not, _&&_}
-use mathlib.Core.List.{List, [], _∷_}
+use mathlib.Core.List.{List, [], _∷_, _++_}
 use lib.IntN.{ℤ, pos, negsuc, natAbs, _+ℤ_, _*ℤ_}
 use lib.ListN.{length, getD}
 use lib.Dec.{leb, eqb}
@@ -32,8 +32,9 @@ setOf order waypoints start end table = record { order = order; waypoints = wayp
 unfoldable pub within : ℤ → Bool
 within z = leb (natAbs z) (2 ^ 40)
 
-unfoldable pub masterQuestions : MasterSet → List Question
-masterQuestions s =
+-- the questions about the lengths of a set, in order
+unfoldable pub shapeQuestions : MasterSet → List Question
+shapeQuestions s =
     let m = mOf (s .order) in
     let points = length (s .waypoints) in
     ask (validOrder (s .order)) 302 ∷
@@ -41,8 +42,15 @@ masterQuestions s =
     ask (leb points 257) 2 ∷
     ask (eqb (length (s .start)) m) 303 ∷
     ask (eqb (length (s .end)) m) 303 ∷
-    ask (eqb (length (s .table)) ((points - 1) * (s .order + 1))) 2 ∷
-    ask (all within (s .waypoints) && all within (s .start) && all within (s .end) && all within (s .table)) 4 ∷ []
+    ask (eqb (length (s .table)) ((points - 1) * (s .order + 1))) 2 ∷ []
+
+-- about its numbers
+unfoldable pub numberQuestions : MasterSet → List Question
+numberQuestions s = ask (all within (s .waypoints) && all within (s .start) && all within (s .end) && all within (s .table)) 4 ∷ []
+
+-- all questions before a master check
+unfoldable pub masterQuestions : MasterSet → List Question
+masterQuestions s = shapeQuestions s ++ numberQuestions s
 
 unfoldable pub masterNumber : MasterSet → ℕ
 masterNumber s = firstNo (masterQuestions s)

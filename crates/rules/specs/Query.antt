@@ -1,7 +1,8 @@
 -- The query: document 01's questions before a query, the lookup, the evaluation of a segment, and the four buffers afterwards. Assumes nothing.
+use mathlib.Core.Path.{_≡_}
 use Prim.Native.Nat.{ℕ, zero, suc, _+_, _*_, _-_, _/_, _%_, _^_}
 use mathlib.Core.Bool.{Bool, false, cond, not, _&&_, _||_}
-use mathlib.Core.List.{List, [], _∷_}
+use mathlib.Core.List.{List, [], _∷_, _++_}
 use lib.IntN.{pos, negsuc}
 use lib.ListN.{length, take, drop}
 use lib.Dec.{leb, eqb}
@@ -26,12 +27,25 @@ pub record QueryInput : Type 0 where
   pub s : PathParam
   pub level : ℕ
 
--- The lengths of the four buffers: positions, first, second and third derivatives.
+-- The lengths of the four buffers.
 pub record Lengths : Type 0 where
   pub q : ℕ
   pub dq : ℕ
   pub ddq : ℕ
   pub dddq : ℕ
+
+-- The buffers: positions, first, second and third derivatives.
+pub record Buffers : Type 0 where
+  pub q : List Float
+  pub dq : List Float
+  pub ddq : List Float
+  pub dddq : List Float
+
+abbrev pub buffers : List Float → List Float → List Float → List Float → Buffers
+buffers q dq ddq dddq = record { q = q; dq = dq; ddq = ddq; dddq = dddq }
+
+abbrev pub lengthsOf : Buffers → Lengths
+lengthsOf b = record { q = length (b .q); dq = length (b .dq); ddq = length (b .ddq); dddq = length (b .dddq) }
 
 -- ---- questions before a query. Derivative 0 is the position.
 
@@ -52,20 +66,30 @@ unfoldable pub inRange : OutOfRangeMode → PathParam → PathParam → PathPara
 inRange Error lo hi s = not (isNan (s .0)) && le (lo .0) (s .0) && le (s .0) (hi .0)
 inRange Clamp lo hi s = not (isNan (s .0))
 
--- the questions about a query into buffers of such lengths, in order
-unfoldable pub queryQuestions : QueryInput → Lengths → List Question
-queryQuestions i n =
-    let p = i .path in
-    let valid : ℕ → ℕ → Bool = validLength (p .axes) (i .level) in
+-- the questions about a path with so many coefficients, in order
+unfoldable pub pathQuestions : PathRecord → ℕ → List Question
+pathQuestions p cells =
     ask (validOrder (p .order)) 302 ∷
     ask (leb 1 (p .segments)) 304 ∷
     ask (leb (p .segments) 256) 2 ∷
     ask (validAxes (p .axes)) 300 ∷
     ask (validRange (p .segments) (p .«s_min») (p .«s_max») && eq (p .«inv_ds») (invDs (p .segments) (p .«s_min») (p .«s_max»))) 301 ∷
-    ask (eqb (length (i .coefficients)) (tableLength (p .axes) (p .segments) (p .order))) 303 ∷
-    ask (validLevel (i .level)) 308 ∷
-    ask (valid 0 (n .q) && valid 1 (n .dq) && valid 2 (n .ddq) && valid 3 (n .dddq)) 2 ∷
-    ask (inRange (p .mode) (p .«s_min») (p .«s_max») (i .s)) 305 ∷ []
+    ask (eqb cells (tableLength (p .axes) (p .segments) (p .order))) 303 ∷ []
+
+-- about the level, and buffers of such lengths
+unfoldable pub bufferQuestions : ℕ → ℕ → Lengths → List Question
+bufferQuestions axes level n =
+    let valid : ℕ → ℕ → Bool = validLength axes level in
+    ask (validLevel level) 308 ∷
+    ask (valid 0 (n .q) && valid 1 (n .dq) && valid 2 (n .ddq) && valid 3 (n .dddq)) 2 ∷ []
+
+-- about s
+unfoldable pub rangeQuestions : PathRecord → PathParam → List Question
+rangeQuestions p s = ask (inRange (p .mode) (p .«s_min») (p .«s_max») s) 305 ∷ []
+
+-- all questions before a query
+unfoldable pub queryQuestions : QueryInput → Lengths → List Question
+queryQuestions i n = (pathQuestions (i .path) (length (i .coefficients)) ++ bufferQuestions (i .path .axes) (i .level) n) ++ rangeQuestions (i .path) (i .s)
 
 unfoldable pub queryNumber : QueryInput → Lengths → ℕ
 queryNumber i n = firstNo (queryQuestions i n)
@@ -196,3 +220,11 @@ derivative i k =
 -- derivative k's buffer afterwards. "Refused: no output buffer changes"; "buffers above the level .. are untouched"
 unfoldable pub derivativeAfter : QueryInput → Lengths → ℕ → List Float → List Float
 derivativeAfter i n k before = cond (eqb (queryNumber i n) 0 && writes (i .level) k) (derivative i k) before
+
+-- what a query answers, and the buffers that it leaves
+pub record Queried (i : QueryInput) (before : Buffers) (number : ℕ) (after : Buffers) : Type 0 where
+  pub number-is : number ≡ queryNumber i (lengthsOf before)
+  pub q-is : after .q ≡ derivativeAfter i (lengthsOf before) 0 (before .q)
+  pub dq-is : after .dq ≡ derivativeAfter i (lengthsOf before) 1 (before .dq)
+  pub ddq-is : after .ddq ≡ derivativeAfter i (lengthsOf before) 2 (before .ddq)
+  pub dddq-is : after .dddq ≡ derivativeAfter i (lengthsOf before) 3 (before .dddq)

@@ -1,4 +1,4 @@
--- What a build may rely on where the first ten questions say yes: the list of its facts, `fillable`, and the orders of its numbers. And the axes'
+-- What a build may rely on where the questions about its input say yes: the list of its facts, `fillable`, and the orders of its numbers. And the axes'
 -- coefficients, as `fill` leaves them, are the table: `table-is`. Assumes nothing.
 use mathlib.Core.Path.{_≡_, sym, ap, ap₂, _∙_}
 use mathlib.Core.Bool.{_&&_}
@@ -7,19 +7,20 @@ use Prim.Native.Nat.{ℕ, _+_, _-_, _*_, _≤_}
 use native.Mathlib.Nat.{le-of-eq, mul-comm, mul-assoc}
 use native.Mathlib.Omega.{arith}
 use lib.Dec.{T, leb, eqb, eqb→eq, leb→le}
-use lib.ListN.{length, take}
+use lib.ListN.{length}
 use lib.Ieee.{Float}
 use lib.Ieee.Fits.{and-r}
 use Rattle.rules.specs.declared.BoundaryState.{BoundaryState}
 use Rattle.rules.specs.declared.BoundaryState.the-variants.{None, Given}
 use Rattle.rules.specs.Questions.{firstNo}
 use Rattle.rules.specs.Tables.{mOf}
-use Rattle.rules.specs.Build.{BuildInput, validAxes, validState, buildQuestions, acceptedRecord, axisWaypoints, axisState, table}
+use Rattle.rules.specs.Build.{BuildInput, validAxes, validState, inputQuestions, acceptedRecord, axisWaypoints, axisState, table}
 use Rattle.rules.proofs.Questions.{answerAt, said-yes}
 use Rattle.rules.proofs.Build.{by-order, coefficient-count}
 use Rattle.rules.proofs.Filling.{joined-ext}
 use Rattle.segments.specs.Kept.{HasNumbers}
 use Rattle.thomas.specs.Axis.{axisPoints}
+use Rattle.axes.specs.declared.Plan.{Plan}
 use Rattle.axes.specs.Axes.{allAxes, Fillable}
 
 has-numbers : (axes m : ℕ) (state : BoundaryState) (numbers : List Float) → T (validState axes m state numbers) → HasNumbers axes m state numbers
@@ -28,24 +29,35 @@ has-numbers axes m None numbers t = tt
 has-numbers axes m (Given rows columns mark) numbers t =
     le-of-eq (mul-comm m axes ∙ sym (eqb→eq (length numbers) (axes * m) (and-r (eqb rows axes && eqb columns m) _ t)))
 
-module _ (b : BuildInput) (before : List Float) (e : firstNo (take 10 (buildQuestions b (length before))) ≡ 0) where
-  answered : (k : ℕ) → T (answerAt (take 10 (buildQuestions b (length before))) k)
-  unfolding buildQuestions
-  answered = said-yes (take 10 (buildQuestions b (length before))) tt e
+-- what a build goes by
+abbrev pub planOf : BuildInput → Float → Plan
+planOf b inv = record {
+  m = mOf (b .config .order);
+  n = b .points - 2;
+  axes = b .axes;
+  «inv_ds» = inv;
+  «start_state» = b .config .«start_state»;
+  «end_state» = b .config .«end_state»;
+}
+
+module _ (b : BuildInput) (before : List Float) (e : firstNo (inputQuestions b (length before)) ≡ 0) where
+  answered : (k : ℕ) → T (answerAt (inputQuestions b (length before)) k)
+  unfolding inputQuestions
+  answered = said-yes (inputQuestions b (length before)) tt e
 
   pub order-known : let order = b .config .order in (1 ≤ order) × (1 ≤ mOf order) × (mOf order ≤ 3)
-  unfolding buildQuestions
+  unfolding inputQuestions
   order-known =
       by-order (λ order. (1 ≤ order) × (1 ≤ mOf order) × (mOf order ≤ 3))
       (omega arith, omega arith, omega arith) (omega arith, omega arith, omega arith) (omega arith, omega arith, omega arith) _ (answered 0)
 
   pub points-known : (2 ≤ b .points) × (b .points ≤ 257)
-  unfolding buildQuestions
+  unfolding inputQuestions
   points-known = (leb→le 2 _ (answered 1), leb→le _ 257 (answered 2))
 
-  pub fillable : let cfg = b .config in Fillable (mOf (cfg .order)) (b .points - 2) (b .axes) (b .waypoints) (cfg .«start_state») (b .start) (cfg .«end_state») (b .end) before
-  unfolding buildQuestions validAxes
-  fillable =
+  pub fillable : (inv : Float) → Fillable (planOf b inv) (b .waypoints) (b .start) (b .end) before
+  unfolding inputQuestions validAxes
+  fillable inv =
       let known : (2 ≤ b .points) × (b .points ≤ 257) = points-known in
       record {
         some = order-known .1;
@@ -60,8 +72,7 @@ module _ (b : BuildInput) (before : List Float) (e : firstNo (take 10 (buildQues
             ∙ ap₂ (λ (segments cells : ℕ). b .axes * (segments * cells)) (omega arith) (sym (coefficient-count _ (answered 0)));
       }
 
-  pub table-is : let cfg = b .config in
-      allAxes (mOf (cfg .order)) (b .points - 2) (b .axes) (b .waypoints) (acceptedRecord b .«inv_ds») (cfg .«start_state») (b .start) (cfg .«end_state») (b .end) ≡ table b
+  pub table-is : allAxes (planOf b (acceptedRecord b .«inv_ds»)) (b .waypoints) (b .start) (b .end) ≡ table b
   unfolding table axisWaypoints axisState axisPoints
   table-is =
       let known : (2 ≤ b .points) × (b .points ≤ 257) = points-known in

@@ -4,6 +4,7 @@ ghost use mathlib.Core.Path.{_≡_};
 ghost use lib.ListN.{length};
 ghost use Rattle.rules.specs.Build.{refusedRecord, buildAnswer, bufferAfter};
 ghost use Rattle.questions.specs.Input.{inputOf};
+use axes::Plan;
 use rules::BuildAnswer;
 use rules::OutOfRangeMode;
 use rules::PathParam;
@@ -39,7 +40,9 @@ pub fn from_waypoints_view(
     end: &[f64],
     coeffs: &mut [f64],
 ) -> BuildAnswer
-    ensures { λ r. ⌜ (r ≡ buildAnswer (inputOf config points axes (now (waypoints .entry)) (now (start .entry)) (now (end .entry))) (length (now (coeffs .entry)))) × (now (coeffs .exit) ≡ bufferAfter (inputOf config points axes (now (waypoints .entry)) (now (start .entry)) (now (end .entry))) (now (coeffs .entry))) ⌝ }
+    ensures { λ r. ⌜ (let b = inputOf config points axes (now (waypoints .entry)) (now (start .entry)) (now (end .entry)) in
+        (r ≡ buildAnswer b (length (now (coeffs .entry))))
+        × (now (coeffs .exit) ≡ bufferAfter b (now (coeffs .entry)))) ⌝ }
 {
     let number = questions::build_questions(
         config,
@@ -61,18 +64,16 @@ pub fn from_waypoints_view(
     let end_state = config.end_state;
     let m = (order - 1) / 2;
     let inv_ds = questions::inv_ds(points - 1, s_min, s_max);
-    let ok = table::fill(
+    let n = points - 2;
+    let plan = Plan {
         m,
-        points - 2,
+        n,
         axes,
-        waypoints,
         inv_ds,
         start_state,
-        start,
         end_state,
-        end,
-        coeffs,
-    );
+    };
+    let ok = table::fill(plan, waypoints, start, end, coeffs);
     if !ok {
         return refused(307);
     }

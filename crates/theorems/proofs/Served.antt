@@ -9,8 +9,8 @@ use lib.Ieee.{Float, fin, up, down, lt, eq}
 use lib.Ieee.Bits.{is-true}
 use lib.Ieee.Fits.{and-i, and-l, and-r}
 use Rattle.rules.specs.Floats.{+0, finite}
-use Rattle.rules.specs.Build.{BuildInput, validRange, invDs, buildQuestions, buildNumber, acceptedRecord}
-use Rattle.rules.specs.Query.{queryQuestions, queryNumber}
+use Rattle.rules.specs.Build.{BuildInput, validRange, invDs, buildQuestions, inputQuestions, pivotQuestions, buildNumber, acceptedRecord}
+use Rattle.rules.specs.Query.{queryQuestions, pathQuestions, bufferQuestions, rangeQuestions, queryNumber}
 use Rattle.rules.proofs.Questions.{answerAt, said-yes, yes-to}
 use Rattle.rules.proofs.Build.{length-table}
 use Rattle.theorems.specs.Served.{BuiltPathsAreServed}
@@ -26,16 +26,16 @@ equals-itself (fin s m e) h = let n = m * up e * down e in is-true _ (and-i (eqb
 
 module _ (b : BuildInput) (cells : ℕ) (e : buildNumber b cells ≡ 0) where
   answered : (k : ℕ) → T (answerAt (buildQuestions b cells) k)
-  unfolding buildNumber buildQuestions
+  unfolding buildNumber buildQuestions inputQuestions pivotQuestions
   answered = said-yes (buildQuestions b cells) tt e
 
   points : (2 ≤ b .points) × (b .points ≤ 257)
-  unfolding buildQuestions
+  unfolding buildQuestions inputQuestions pivotQuestions
   points = (leb→le 2 _ (answered 1), leb→le _ 257 (answered 2))
 
   -- the quotient is the record's own, and it is finite
   range : let lo = b .config .«s_min» in let hi = b .config .«s_max» in let inv = invDs (b .points - 1) lo hi in T (validRange (b .points - 1) lo hi && eq inv inv)
-  unfolding buildQuestions validRange
+  unfolding buildQuestions inputQuestions pivotQuestions validRange
   range =
       let lo = b .config .«s_min» in
       let hi = b .config .«s_max» in
@@ -44,7 +44,7 @@ module _ (b : BuildInput) (cells : ℕ) (e : buildNumber b cells ≡ 0) where
       and-i (validRange (b .points - 1) lo hi) (eq inv inv) (answered 8) (subst T (sym (equals-itself inv bounded)) tt)
 
 pub built-paths-are-served : BuiltPathsAreServed
-unfolding BuiltPathsAreServed queryNumber queryQuestions acceptedRecord buildQuestions
+unfolding BuiltPathsAreServed queryNumber queryQuestions pathQuestions bufferQuestions rangeQuestions acceptedRecord buildQuestions inputQuestions pivotQuestions
 built-paths-are-served b cells s level n e =
     let yes : (k : ℕ) → T (answerAt (buildQuestions b cells) k) = answered b cells e in
     let few : (2 ≤ b .points) × (b .points ≤ 257) = points b cells e in

@@ -1,12 +1,13 @@
 -- `axes::fill_axes` meets its contract. The loop's invariant: the buffer has the coefficients of the first axes, and its own cells behind them. Assumes nothing.
-use mathlib.Core.Path.{_≡_, refl, sym, ap, _∙_}
-use Prim.Native.Nat.{_+_, _-_, _*_, _≤_}
+use mathlib.Core.Path.{_≡_, refl, ap, _∙_}
+use Prim.Native.Nat.{ℕ, _+_, _-_, _*_, _≤_}
 use native.Mathlib.Omega.{arith}
 use lib.ListN.{length}
 use Rattle.rules.proofs.Lists.{length-listed, part-inside}
 use Rattle.rules.proofs.Build.{length-axis}
 use Rattle.rules.proofs.Cells.{next-part}
 use Rattle.rules.proofs.Parts.{Parted, none, kept, step, whole}
+use Rattle.axes.specs.declared.Plan.{Plan}
 use Rattle.axes.specs.Axes.{axisTable}
 use Rattle.rules.proofs.Lent.{part-size, part-length}
 use Rattle.axes.proofs.Sizes.{stride-small, table-small}
@@ -14,130 +15,83 @@ use borrow.Author.Needs.{needs}
 use Rattle.axes.proofs.fill_axes.Statement.{statement}
 use Rattle.axes.proofs.fill_axes.Tie as tie
 
+-- an axis's cells
+abbrev cells : Plan → ℕ
+cells p = (p .n + 1) * (2 * p .m + 2)
+
 abbrev Inv-loop : tie.InvT-loop
-Inv-loop m n r a c h-coeff entries rows solved-c axes waypoints inv-ds start-state start end-state end ends₀ side₀ solved₀ coeffs₀ stride axis₀ ends side solved coeffs axis =
-    Parted ((n + 1) * (2 * m + 2)) axis (axisTable m n axes waypoints inv-ds start-state start end-state end) coeffs₀ coeffs
-    × (axis ≤ axes) × (length ends ≡ m + m) × (length side ≡ m) × (length solved ≡ length solved₀)
+Inv-loop plan tables entries rows solved-c waypoints start end solved₀ coeffs₀ stride axes axis₀ solved coeffs axis =
+    Parted (cells plan) axis (axisTable plan waypoints start end) coeffs₀ coeffs
+    × (axis ≤ plan .axes) × (length solved ≡ length solved₀)
 
 abbrev μ-loop : tie.MeasureT-loop
-μ-loop m n r a c h-coeff entries rows solved-c axes waypoints inv-ds start-state start end-state end ends₀ side₀ solved₀ coeffs₀ stride axis₀ ends side solved coeffs axis = axes - axis
+μ-loop plan tables entries rows solved-c waypoints start end solved₀ coeffs₀ stride axes axis₀ solved coeffs axis = plan .axes - axis
 
-abbrev begun : tie.At-loop Inv-loop μ-loop → tie.Start Inv-loop μ-loop
-begun c = c .before .before .before .before .before .before .before .before .before .before .before .before .before .before .before
+-- ---- places: the entry, the loop's head, and its body
+
+abbrev first : tie.After-struct-known Inv-loop μ-loop → tie.Start Inv-loop μ-loop
+first c = c .before .before .before .before .before .before .before .before .before
+
+abbrev entry : tie.After-struct-known2 Inv-loop μ-loop → tie.Start Inv-loop μ-loop
+entry c = first (c .before)
+
+abbrev start : tie.At-loop Inv-loop μ-loop → tie.Start Inv-loop μ-loop
+start c = entry (c .before)
+
+abbrev lending : tie.After-fill-axis-arg Inv-loop μ-loop → tie.In-loop Inv-loop μ-loop
+lending c = c .before
+
+abbrev filled : tie.After-slice-known4 Inv-loop μ-loop → tie.After-fill-axis Inv-loop μ-loop
+filled c = c .before .before .before .before
+
+abbrev turn : tie.After-slice-known4 Inv-loop μ-loop → tie.In-loop Inv-loop μ-loop
+turn c = lending (filled c .before .before)
+
+-- ---- how large the numbers are
+
+small : (p : tie.Start Inv-loop μ-loop) → cells (p .args .plan) ≤ 2048
+small p = stride-small (p .args .plan .m) (p .args .plan .n) (p .pre .0 .few) (p .pre .0 .few-nodes)
 
 -- an axis's part of the buffer is inside, and the buffer small
 inside : (c : tie.In-loop Inv-loop μ-loop)
-    → (let args = begun (c .before) .args in
-    let stride = (args .n + 1) * (2 * args .m + 2) in
-    (c .before .loop .axis * stride + stride ≤ args .axes * stride) × (args .axes * stride ≤ 16384))
+    → (let plan = start (c .before) .args .plan in
+    (c .before .loop .axis * cells plan + cells plan ≤ plan .axes * cells plan) × (plan .axes * cells plan ≤ 16384))
 inside c =
-    let start = begun (c .before) in
-    let args = start .args in
-    let stride = (args .n + 1) * (2 * args .m + 2) in
-    (part-inside stride (c .loop-test .taken), table-small (args .axes) stride (start .pre .0 .few-axes) (stride-small (args .m) (args .n) (start .pre .0 .few) (start .pre .0 .few-nodes)))
+    let p = start (c .before) in
+    let plan = p .args .plan in
+    (part-inside (cells plan) (c .loop-test .taken), table-small (plan .axes) (cells plan) (p .pre .0 .few-axes) (small p))
 
-add-stride : tie.Need-add-stride Inv-loop μ-loop
-add-stride c = omega (arith, c .before .before .before .before .before .before .before .before .before .before .before .before .before .before .pre .0 .few-nodes)
-
-mul-stride : tie.Need-mul-stride Inv-loop μ-loop
-mul-stride c = omega (arith, c .before .before .before .before .before .before .before .before .before .before .before .before .before .before .pre .0 .few)
-
-add-stride-2 : tie.Need-add-stride-2 Inv-loop μ-loop
-add-stride-2 c = omega (arith, c .before .before .before .before .before .before .before .before .before .before .before .before .before .before .pre .0 .few)
-
-mul-stride-2 : tie.Need-mul-stride-2 Inv-loop μ-loop
-mul-stride-2 c =
-    let start = c .before .before .before .before .before .before .before .before .before .before .before .before .before .before in
-    omega (arith, stride-small (start .args .m) (start .args .n) (start .pre .0 .few) (start .pre .0 .few-nodes))
+-- ---- the loop
 
 loop-holds : tie.Need-loop-holds Inv-loop μ-loop
 loop-holds c =
-    let start = c .before .before .before .before .before .before .before .before .before .before .before .before .before .before in
-    let args = start .args in (
-      none _ _ (args .coeffs .now) (λ axis. length-axis (args .m) (args .n) _ _ _ (length-listed (args .m) _) (length-listed (args .m) _)),
+    let p = entry c in
+    let plan = p .args .plan in (
+      none _ _ (p .args .coeffs .now) (λ axis. length-axis (plan .m) (plan .n) _ _ _ (length-listed (plan .m) _) (length-listed (plan .m) _)),
       omega arith,
-      start .pre .1,
-      start .pre .2,
       refl,
     )
 
-mul-at : tie.Need-mul-at Inv-loop μ-loop
-mul-at c = omega (arith, inside c .0, inside c .1)
-
-add-fill-axis : tie.Need-add-fill-axis Inv-loop μ-loop
-add-fill-axis c = omega (arith, inside (c .before .before .before) .0, inside (c .before .before .before) .1)
-
-mul-fill-axis : tie.Need-mul-fill-axis Inv-loop μ-loop
-mul-fill-axis c = omega (arith, inside (c .before .before .before) .0, inside (c .before .before .before) .1)
-
-sub-fill-axis : tie.Need-sub-fill-axis Inv-loop μ-loop
-sub-fill-axis c = omega arith
-
-part-fill-axis-start : tie.Need-part-fill-axis-start Inv-loop μ-loop
-part-fill-axis-start c = omega arith
-
-part-fill-axis-end : tie.Need-part-fill-axis-end Inv-loop μ-loop
-part-fill-axis-end c =
-    let in-loop = c .before .before .before in
-    omega (arith, inside in-loop .0, kept (in-loop .before .loop .inv .0), begun (in-loop .before) .pre .4)
-
 fill-axis-requires : tie.Need-fill-axis-requires Inv-loop μ-loop
 fill-axis-requires c κs =
-    let in-loop = c .before .before .before .before in
-    let at = in-loop .before in
-    let start = begun at in
-    let args = start .args in
-    let stride = (args .n + 1) * (2 * args .m + 2) in
+    let at = lending (c .before) .before in
+    let p = start at in
+    let size = cells (p .args .plan) in
     let coeffs = at .loop .coeffs in (
-      start .pre .0,
-      in-loop .loop-test .taken,
-      at .loop .inv .2,
-      at .loop .inv .3,
-      omega (arith, at .loop .inv .4, start .pre .3),
-      ap length (part-size (at .loop .axis * stride) stride coeffs)
-          ∙ part-length (at .loop .axis * stride) stride coeffs (omega (arith, inside in-loop .0, kept (at .loop .inv .0), start .pre .4)),
+      p .pre .0,
+      lending (c .before) .loop-test .taken,
+      omega (arith, at .loop .inv .2, p .pre .1),
+      ap length (part-size (at .loop .axis * size) size coeffs)
+          ∙ part-length (at .loop .axis * size) size coeffs (omega (arith, inside (lending (c .before)) .0, kept (at .loop .inv .0), p .pre .2)),
     )
-
-add-axis : tie.Need-add-axis Inv-loop μ-loop
-add-axis c =
-    let in-loop = c .before .before .before .before .before .before .before .before .before .before .before .before .before in
-    omega (arith, in-loop .loop-test .taken, begun (in-loop .before) .pre .0 .few-axes)
-
-loop-less : tie.Need-loop-less Inv-loop μ-loop
-loop-less c = search needs
 
 loop-again : tie.Need-loop-again Inv-loop μ-loop
 loop-again c =
-    let in-loop = c .before .before .before .before .before .before .before .before .before .before .before .before .before in
-    let at = in-loop .before in
-    let start = begun at in
-    let args = start .args in
-    let stride = (args .n + 1) * (2 * args .m + 2) in (
-      step (at .loop .inv .0) (c .before .before .before .before .before .before .before .before .fill-axis .ensures) (rw next-part (omega (arith, inside in-loop .0, start .pre .4))),
-      omega (arith, in-loop .loop-test .taken),
-      omega (arith, at .loop .inv .2, c .before .before .before .before .before .before .before .ends .given),
-      omega (arith, at .loop .inv .3, c .before .before .before .before .before .side .given),
-      omega (arith, at .loop .inv .4, c .before .before .before .solved .given),
+    let at = turn c .before in (
+      step (at .loop .inv .0) (filled c .fill-axis .ensures) (rw next-part (omega (arith, inside (turn c) .0, start at .pre .2))),
+      omega (arith, turn c .loop-test .taken),
+      omega (arith, at .loop .inv .2, c .before .before .before .solved .given),
     )
-
-same-length : tie.Need-same-length Inv-loop μ-loop
-same-length c =
-    c .before .loop .inv .2 ∙ sym (begun (c .before) .pre .1)
-
-same-length-2 : tie.Need-same-length-2 Inv-loop μ-loop
-same-length-2 c =
-    c .before .loop .inv .3 ∙ sym (begun (c .before) .pre .2)
-
-same-length-3 : tie.Need-same-length-3 Inv-loop μ-loop
-same-length-3 c = c .before .loop .inv .4
-
-same-length-4 : tie.Need-same-length-4 Inv-loop μ-loop
-same-length-4 c = kept (c .before .loop .inv .0)
-
-returns : tie.Need-returns Inv-loop μ-loop
-returns c =
-    let at = c .before in
-    whole (at .loop .inv .0) (begun at .pre .4) (omega (arith, at .loop .inv .1))
 
 pub fill-axes-spec : {M : Type 1} → statement M
 fill-axes-spec =
@@ -145,23 +99,21 @@ fill-axes-spec =
     (tie.spec
     Inv-loop
     μ-loop
-    add-stride
-    mul-stride
-    add-stride-2
-    mul-stride-2
+    (λ c. omega (arith, first c .pre .0 .few-nodes))
+    (λ c. omega (arith, entry c .pre .0 .few))
+    (λ c. omega (arith, entry c .pre .0 .few))
+    (λ c. omega (arith, small (entry c)))
     loop-holds
-    mul-at
-    add-fill-axis
-    mul-fill-axis
-    sub-fill-axis
-    part-fill-axis-start
-    part-fill-axis-end
+    (λ c. omega (arith, inside c .0, inside c .1))
+    (λ c. omega (arith, inside (lending c) .0, inside (lending c) .1))
+    (λ c. omega (arith, inside (lending c) .0, inside (lending c) .1))
+    (λ c. omega arith)
+    (λ c. omega arith)
+    (λ c. omega (arith, inside (lending c) .0, kept (lending c .before .loop .inv .0), start (lending c .before) .pre .2))
     fill-axis-requires
-    add-axis
-    loop-less
+    (λ c. omega (arith, turn c .loop-test .taken, start (turn c .before) .pre .0 .few-axes))
+    (λ c. search needs)
     loop-again
-    same-length
-    same-length-2
-    same-length-3
-    same-length-4
-    returns)
+    (λ c. c .before .loop .inv .2)
+    (λ c. kept (c .before .loop .inv .0))
+    (λ c. whole (c .before .loop .inv .0) (start (c .before) .pre .2) (omega (arith, c .before .loop .inv .1))))

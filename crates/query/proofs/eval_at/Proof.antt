@@ -1,6 +1,6 @@
 -- `query::eval_at` meets its contract. Its three ways out are a no to one of the questions before the lookup, an s that the lookup refuses, and a yes to all.
 -- Assumes nothing.
-use mathlib.Core.Path.{_≡_, refl, sym, ap, _∙_, subst}
+use mathlib.Core.Path.{_≡_, sym, ap, _∙_, subst}
 use mathlib.Core.Bool.{Bool, true, cond}
 use mathlib.Core.List.{List}
 use Prim.Native.Nat.{ℕ, _<_}
@@ -10,9 +10,9 @@ use borrow.Author.Tests.{le-leb}
 use lib.Ieee.{Float}
 use Rattle.rules.specs.declared.SegmentUnits.{SegmentUnits}
 use Rattle.rules.specs.declared.Lookup.the-variants.{At}
-use Rattle.rules.specs.Query.{QueryInput, Lengths, writes, lookup, LookupSays, lookupSays, queryNumber, derivativeAfter}
+use Rattle.rules.specs.Query.{QueryInput, Lengths, Buffers, buffers, lengthsOf, writes, lookup, LookupSays, lookupSays, queryNumber, derivativeAfter, Queried}
 use Rattle.query.specs.Axes.{derivativeAt}
-use Rattle.questions.specs.Input.{queryOf, lengthsOf}
+use Rattle.questions.specs.Input.{queryOf}
 use Rattle.query.proofs.Answered as Answered
 use Rattle.query.proofs.Answered.{range, in-range, out-of-range, segment-known, no-number, range-number, yes-number, refused, served, segments-known, evaluable, derivative-at}
 use Rattle.query.proofs.eval_at.Statement.{statement}
@@ -28,11 +28,14 @@ start p = p .before .before .before .before .before .before
 abbrev given : Place → QueryInput
 given p = let a = start p .args in queryOf (a .path) (a .coeffs .now) (a .s) (a .level)
 
+abbrev before : Place → Buffers
+before p = let a = start p .args in buffers (a .q .now) (a .dq .now) (a .ddq .now) (a .dddq .now)
+
 abbrev lengths : Place → Lengths
-lengths p = let a = start p .args in lengthsOf (a .q .now) (a .dq .now) (a .ddq .now) (a .dddq .now)
+lengths p = lengthsOf (before p)
 
 answer : (p : Place) → p .query-questions .result ≡ Answered.asked (given p) (lengths p)
-answer p = p .query-questions .ensures (start p .args .coeffs .now) (start p .args .s) refl
+answer p = p .query-questions .ensures
 
 said-yes : (c : tie.Else1) → Answered.asked (given (c .before)) (lengths (c .before)) ≡ 0
 said-yes c = sym (answer (c .before)) ∙ c .if1 .left
@@ -55,13 +58,10 @@ unfolding lookupSays
 inside c = let i = given (asked-at c) in in-range (i .path) (i .s) (ap (λ (says : LookupSays). says .number) (found c))
 
 -- a refusal: its number, and each buffer as it was
-as-it-was : (p : Place) {number : ℕ} → (number ≡ 0 → ⊥) → queryNumber (given p) (lengths p) ≡ number
-    → let a = start p .args in let after : ℕ → List Float → List Float = derivativeAfter (given p) (lengths p) in
-    (number ≡ queryNumber (given p) (lengths p)) × (a .q .now ≡ after 0 (a .q .now)) × (a .dq .now ≡ after 1 (a .dq .now)) × (a .ddq .now ≡ after 2 (a .ddq .now)) × (a .dddq .now ≡ after 3 (a .dddq .now))
+as-it-was : (p : Place) {number : ℕ} → (number ≡ 0 → ⊥) → queryNumber (given p) (lengths p) ≡ number → Queried (given p) (before p) number (before p)
 as-it-was p {number} h is =
-    let a = start p .args in
-    let same : (k : ℕ) (before : List Float) → before ≡ derivativeAfter (given p) (lengths p) k before = λ k before. sym (refused (given p) (lengths p) number h is k before) in
-    (sym is, same 0 (a .q .now), same 1 (a .dq .now), same 2 (a .ddq .now), same 3 (a .dddq .now))
+    let same : (k : ℕ) (xs : List Float) → xs ≡ derivativeAfter (given p) (lengths p) k xs = λ k xs. sym (refused (given p) (lengths p) number h is k xs) in
+    record { number-is = sym is; q-is = same 0 _; dq-is = same 1 _; ddq-is = same 2 _; dddq-is = same 3 _ }
 
 query-questions-requires : tie.Need-query-questions-requires
 query-questions-requires c κs = search needs
@@ -122,7 +122,13 @@ returns-3 c =
     λ k before. ap (λ (xs : List Float). cond (writes (i .level) k) xs before) (sym (derivative-at i (segment f) (tau f) (found f) k)) ∙ sym (served i (lengths p) is k before) in
     let h = l .eval-axes .ensures in
     let always : writes (i .level) 0 ≡ true = le-leb 0 (i .level) (omega arith) in
-    (sym is, h .is-q ∙ ap (λ (w : Bool). cond w (derivativeAt (i .path) (i .coefficients) (segment f) (tau f .0) 0) (start p .args .q .now)) (sym always) ∙ written 0 (start p .args .q .now), h .is-dq ∙ written 1 (start p .args .dq .now), h .is-ddq ∙ written 2 (start p .args .ddq .now), h .is-dddq ∙ written 3 (start p .args .dddq .now))
+    record {
+      number-is = sym is;
+      q-is = h .is-q ∙ ap (λ (w : Bool). cond w (derivativeAt (i .path) (i .coefficients) (segment f) (tau f .0) 0) (before p .q)) (sym always) ∙ written 0 (before p .q);
+      dq-is = h .is-dq ∙ written 1 (before p .dq);
+      ddq-is = h .is-ddq ∙ written 2 (before p .ddq);
+      dddq-is = h .is-dddq ∙ written 3 (before p .dddq);
+    }
 
 pub eval-at-spec : {M : Type 1} → statement M
 eval-at-spec =

@@ -6,11 +6,11 @@ use Prim.Native.Nat.{ℕ, _+_, _*_, _-_, _/_, _≤_}
 use native.Mathlib.Nat.{mul-le-mul}
 use native.Mathlib.Omega.{arith}
 use lib.Dec.{T}
-use lib.ListN.{take, drop}
+use lib.ListN.{drop}
 use borrow.Author.Needs.{needs}
 use borrow.Author.Tests.{le-leb, lt-leb, eq-eqb, ne-eqb}
 use Rattle.rules.specs.Questions.{Question, firstNo}
-use Rattle.rules.specs.Build.{validAxes, buildQuestions}
+use Rattle.rules.specs.Build.{validAxes, inputQuestions}
 use Rattle.rules.proofs.Questions.{yes-to, no-to}
 use Rattle.rules.proofs.Build.{by-order}
 use Rattle.questions.specs.Input.{inputOf}
@@ -28,49 +28,49 @@ start p = p .before .before .before .before .before .before
 abbrev asked : Place → List Question
 asked p =
     let a = start p .args in
-    take 10 (buildQuestions (inputOf (a .config) (a .points) (a .axes) (a .waypoints .now) (a .start .now) (a .end .now)) (a .cells))
+    inputQuestions (inputOf (a .config) (a .points) (a .axes) (a .waypoints .now) (a .start .now) (a .end .now)) (a .cells)
 
 abbrev Past : ℕ → Place → Type 0
 Past k p = firstNo (asked p) ≡ firstNo (drop k (asked p))
 
 past-1 : (c : tie.Else1) → Past 1 (c .before)
-unfolding buildQuestions
+unfolding inputQuestions
 past-1 c = yes-to _ _ (yes (c .before .valid-order .ensures) (c .if1 .left))
 
 past-2 : (c : tie.Else2) → Past 2 (c .before .before)
-unfolding buildQuestions
+unfolding inputQuestions
 past-2 c = past-1 (c .before) ∙ yes-to _ _ (le-leb 2 _ (c .if2 .left))
 
 past-3 : (c : tie.Else3) → Past 3 (c .before .before .before)
-unfolding buildQuestions
+unfolding inputQuestions
 past-3 c = past-2 (c .before) ∙ yes-to _ _ (le-leb _ 257 (c .if3 .left))
 
 past-4 : (c : tie.Else5) → Past 4 (c .before .before .before .before .before)
-unfolding buildQuestions validAxes
+unfolding inputQuestions validAxes
 past-4 c = past-3 (c .before .before) ∙ yes-to _ _ (rw (le-leb 1 _ (c .before .if4 .left), le-leb _ 8 (c .if5 .left)))
 
 past-5 : (c : tie.Else6) → Past 5 (c .before .before .before .before .before .before)
-unfolding buildQuestions
+unfolding inputQuestions
 past-5 c = past-4 (c .before) ∙ yes-to _ _ (eq-eqb _ _ (c .if6 .left))
 
 past-6 : (c : tie.Else7) → Past 6 (c .before .before .before .before .before .before .before .before)
-unfolding buildQuestions
+unfolding inputQuestions
 past-6 c = past-5 (c .before .before) ∙ yes-to _ _ (yes (c .before .valid-state .ensures) (c .if7 .left))
 
 past-7 : (c : tie.Else8) → Past 7 (c .before .before .before .before .before .before .before .before .before .before)
-unfolding buildQuestions
+unfolding inputQuestions
 past-7 c = past-6 (c .before .before) ∙ yes-to _ _ (yes (c .before .valid-state2 .ensures) (c .if8 .left))
 
 past-8 : (c : tie.Else9) → Past 8 (c .before .before .before .before .before .before .before .before .before .before .before)
-unfolding buildQuestions
+unfolding inputQuestions
 past-8 c = past-7 (c .before) ∙ yes-to _ _ (eq-eqb _ _ (c .if9 .left))
 
 past-9 : (c : tie.Else10) → Past 9 (c .before .before .before .before .before .before .before .before .before .before .before .before .before)
-unfolding buildQuestions
+unfolding inputQuestions
 past-9 c = past-8 (c .before .before) ∙ yes-to _ _ (yes (c .before .valid-range .ensures) (c .if10 .left))
 
 past-10 : (c : tie.Else13) → Past 10 (c .before .before .before .before .before .before .before .before .before .before .before .before .before .before .before .before .before .before .before)
-unfolding buildQuestions
+unfolding inputQuestions
 past-10 c =
     let e = c .before .before in
     let d = e .before .before in
@@ -97,30 +97,30 @@ valid-order-requires : tie.Need-valid-order-requires
 valid-order-requires c κs = search needs
 
 returns : tie.Need-returns
-unfolding buildQuestions
+unfolding inputQuestions
 returns c = sym (no-to _ (no (c .before .valid-order .ensures) (c .if1 .taken)))
 
 returns-2 : tie.Need-returns-2
-unfolding buildQuestions
+unfolding inputQuestions
 returns-2 c = sym (past-1 (c .before) ∙ no-to _ (lt-leb 2 _ (c .if2 .taken)))
 
 returns-3 : tie.Need-returns-3
-unfolding buildQuestions
+unfolding inputQuestions
 returns-3 c = sym (past-2 (c .before) ∙ no-to _ (lt-leb _ 257 (c .if3 .taken)))
 
 returns-4 : tie.Need-returns-4
-unfolding buildQuestions validAxes
+unfolding inputQuestions validAxes
 returns-4 c = sym (past-3 (c .before) ∙ no-to _ (rw (lt-leb 1 _ (c .if4 .taken))))
 
 returns-5 : tie.Need-returns-5
-unfolding buildQuestions validAxes
+unfolding inputQuestions validAxes
 returns-5 c = sym (past-3 (c .before .before) ∙ no-to _ (rw (le-leb 1 _ (c .before .if4 .left), lt-leb _ 8 (c .if5 .taken))))
 
 mul-if6 : tie.Need-mul-if6
 mul-if6 c = let h = mul-le-mul (c .if5 .left) (c .before .before .if3 .left) in record { fits = omega arith }
 
 returns-6 : tie.Need-returns-6
-unfolding buildQuestions
+unfolding inputQuestions
 returns-6 c = sym (past-4 (c .before) ∙ no-to _ (ne-eqb _ _ (c .if6 .taken)))
 
 sub-m : tie.Need-sub-m
@@ -130,14 +130,14 @@ valid-state-requires : tie.Need-valid-state-requires
 valid-state-requires c κs = state-bounds (c .before)
 
 returns-7 : tie.Need-returns-7
-unfolding buildQuestions
+unfolding inputQuestions
 returns-7 c = sym (past-5 (c .before .before) ∙ no-to _ (no (c .before .valid-state .ensures) (c .if7 .taken)))
 
 valid-state-requires-2 : tie.Need-valid-state-requires-2
 valid-state-requires-2 c κs = state-bounds (c .before .before .before)
 
 returns-8 : tie.Need-returns-8
-unfolding buildQuestions
+unfolding inputQuestions
 returns-8 c = sym (past-6 (c .before .before) ∙ no-to _ (no (c .before .valid-state2 .ensures) (c .if8 .taken)))
 
 sub-segments : tie.Need-sub-segments
@@ -153,28 +153,28 @@ mul-if9-2 : tie.Need-mul-if9-2
 mul-if9-2 c = let h = table-bound (c .before .before .before .before .before) in record { fits = omega arith }
 
 returns-9 : tie.Need-returns-9
-unfolding buildQuestions
+unfolding inputQuestions
 returns-9 c = sym (past-7 (c .before) ∙ no-to _ (ne-eqb _ _ (c .if9 .taken)))
 
 valid-range-requires : tie.Need-valid-range-requires
 valid-range-requires c κs = search needs
 
 returns-10 : tie.Need-returns-10
-unfolding buildQuestions
+unfolding inputQuestions
 returns-10 c = sym (past-8 (c .before .before) ∙ no-to _ (no (c .before .valid-range .ensures) (c .if10 .taken)))
 
 all-finite-requires : tie.Need-all-finite-requires
 all-finite-requires c κs = search needs
 
 returns-11 : tie.Need-returns-11
-unfolding buildQuestions
+unfolding inputQuestions
 returns-11 c = sym (past-9 (c .before .before) ∙ no-to _ (rw (no (c .before .all-finite .ensures) (c .if11 .taken))))
 
 finite-state-requires : tie.Need-finite-state-requires
 finite-state-requires c κs = search needs
 
 returns-12 : tie.Need-returns-12
-unfolding buildQuestions
+unfolding inputQuestions
 returns-12 c =
     let d = c .before .before in
     sym (past-9 (d .before .before) ∙ no-to _ (rw (yes (d .before .all-finite .ensures) (d .if11 .left), no (c .before .finite-state .ensures) (c .if12 .taken))))
@@ -183,14 +183,14 @@ finite-state-requires-2 : tie.Need-finite-state-requires-2
 finite-state-requires-2 c κs = search needs
 
 returns-13 : tie.Need-returns-13
-unfolding buildQuestions
+unfolding inputQuestions
 returns-13 c =
     let e = c .before .before in
     let d = e .before .before in
     sym (past-9 (d .before .before) ∙ no-to _ (rw (yes (d .before .all-finite .ensures) (d .if11 .left), yes (e .before .finite-state .ensures) (e .if12 .left), no (c .before .finite-state2 .ensures) (c .if13 .taken))))
 
 returns-14 : tie.Need-returns-14
-unfolding buildQuestions firstNo
+unfolding inputQuestions firstNo
 returns-14 c = sym (past-10 c)
 
 pub build-questions-spec : {M : Type 1} → statement M

@@ -1,4 +1,4 @@
--- `spline::from_waypoints_view` meets its contract. Its three ways out are a no to one of the first ten questions, a no to the last, which is the one
+-- `spline::from_waypoints_view` meets its contract. Its three ways out are a no to one of the questions about its input, a no to the last, which is the one
 -- about pivots, and a yes to all. Assumes nothing.
 use mathlib.Core.Path.{_≡_, sym, _∙_}
 use mathlib.Core.Bool.{true, false}
@@ -7,11 +7,11 @@ use Prim.Native.Nat.{ℕ, _≤_}
 use native.Mathlib.Omega.{arith}
 use borrow.Author.Needs.{needs}
 use borrow.Author.Tests.{not-true, not-false}
-use lib.ListN.{length, take}
+use lib.ListN.{length}
 use lib.Ieee.{Float}
 use Rattle.rules.specs.Questions.{firstNo}
 use Rattle.rules.specs.Tables.{mOf}
-use Rattle.rules.specs.Build.{BuildInput, everyPivot, buildQuestions, buildNumber, acceptedRecord}
+use Rattle.rules.specs.Build.{BuildInput, everyPivot, inputQuestions, buildNumber, acceptedRecord}
 use Rattle.rules.proofs.Answers.{no-number, pivot-number, yes-number, refused-answer, accepted-answer, refused-buffer, accepted-buffer}
 use Rattle.questions.specs.Input.{inputOf}
 use Rattle.spline.proofs.Answered.{order-known, points-known, fillable, table-is}
@@ -32,12 +32,12 @@ abbrev buffer : Place → List Float
 buffer p = start p .args .coeffs .now
 
 abbrev asked : Place → ℕ
-asked p = firstNo (take 10 (buildQuestions (given p) (length (buffer p))))
+asked p = firstNo (inputQuestions (given p) (length (buffer p)))
 
 abbrev number : Place → ℕ
 number p = buildNumber (given p) (length (buffer p))
 
--- where the first ten questions say yes
+-- where the questions about its input say yes
 said-yes : (c : tie.Else1) → asked (c .before) ≡ 0
 said-yes c = sym (c .before .build-questions .ensures) ∙ c .if1 .left
 
@@ -72,13 +72,13 @@ sub-inv-ds c = let h = points-bounds (c .before .before) in omega arith
 inv-ds-requires : tie.Need-inv-ds-requires
 inv-ds-requires c κs = let h = points-bounds (c .before .before) in omega arith
 
-sub-fill : tie.Need-sub-fill
-sub-fill c = points-bounds (c .before .before .before) .0
+sub-n : tie.Need-sub-n
+sub-n c = points-bounds (c .before .before .before) .0
 
 fill-requires : tie.Need-fill-requires
 fill-requires c κs =
     let d = c .before .before .before .before in
-    fillable (given (d .before)) (buffer (d .before)) (said-yes d)
+    fillable (given (d .before)) (buffer (d .before)) (said-yes d) _
 
 refused-requires-2 : tie.Need-refused-requires-2
 refused-requires-2 c κs = search needs
@@ -97,8 +97,8 @@ returns-2 c =
       rw no at (f .fill .ensures .1) ∙ sym (refused-buffer (given p) (buffer p) 307 (λ e. omega arith) is),
     )
 
-sub-t18 : tie.Need-sub-t18
-sub-t18 c = let h = points-bounds (c .before .before .before .before .before .before .before .before) in omega arith
+sub-t20 : tie.Need-sub-t20
+sub-t20 c = let h = points-bounds (c .before .before .before .before .before .before .before .before) in omega arith
 
 same-length-2 : tie.Need-same-length-2
 same-length-2 c = search needs
@@ -126,11 +126,11 @@ from-waypoints-view-spec =
     sub-m
     sub-inv-ds
     inv-ds-requires
-    sub-fill
+    sub-n
     fill-requires
     refused-requires-2
     same-length
     returns-2
-    sub-t18
+    sub-t20
     same-length-2
     returns-3)

@@ -10,100 +10,50 @@ use Rattle.table.proofs.fill.Tie as tie
 sized : (k m n : ℕ) → n ≤ k → m ≤ 3 → (n * m ≤ k * 3) × (n * (m * m) ≤ k * 9)
 sized k m n h l = (mul-le-mul h l, mul-le-mul h (mul-le-mul l l))
 
-slice-aggregate-factor-and-fill : tie.Need-slice-aggregate-factor-and-fill
-slice-aggregate-factor-and-fill c = search needs
+-- so there is room where n ≤ k
+room : (k : ℕ) (p : tie.Start) → p .args .plan .n ≤ k → (p .args .plan .n * p .args .plan .m ≤ k * 3) × (p .args .plan .n * (p .args .plan .m * p .args .plan .m) ≤ k * 9)
+room k p h = sized k (p .args .plan .m) (p .args .plan .n) h (p .pre .few)
 
-slice-aggregate-factor-and-fill-2 : tie.Need-slice-aggregate-factor-and-fill-2
-slice-aggregate-factor-and-fill-2 c = search needs
+requires-1 : tie.Need-solve-general-thomas-requires
+requires-1 c κs =
+    let p = c .before .before .before .before .before .before .before .before .before .before in
+    let r = room 0 p (omega (arith, c .before .before .before .before .before .if1 .taken)) in
+    (p .pre, record { for-entries = omega (arith, r .1); for-rows = omega (arith, r .0); for-solved = omega (arith, r .1) }, omega (arith, r .0))
 
-slice-aggregate-factor-and-fill-3 : tie.Need-slice-aggregate-factor-and-fill-3
-slice-aggregate-factor-and-fill-3 c = search needs
+requires-2 : tie.Need-solve-general-thomas-requires-2
+requires-2 c κs =
+    let p = c .before .before .before .before .before .before .before .before .before .before .before in
+    let r = room 30 p (c .before .before .before .before .before .if2 .taken) in
+    (p .pre, record { for-entries = r .1; for-rows = r .0; for-solved = r .1 }, r .0)
 
-slice-aggregate-factor-and-fill-4 : tie.Need-slice-aggregate-factor-and-fill-4
-slice-aggregate-factor-and-fill-4 c = search needs
-
-factor-and-fill-requires : tie.Need-factor-and-fill-requires
-factor-and-fill-requires c κs =
-    let start = c .before .before .before .before .before .before .before .before .before .before in
-    let room = sized 0 (start .args .m) (start .args .n) (omega (arith, c .before .before .before .before .before .if1 .taken)) (start .pre .few) in
-    (start .pre, record { for-entries = omega (arith, room .1); for-rows = omega (arith, room .0); for-solved = omega (arith, room .1) }, omega (arith, room .0))
-
-same-length : tie.Need-same-length
-same-length c = search needs
-
-returns : tie.Need-returns
-returns c = search needs
-
-slice-aggregate-factor-and-fill-5 : tie.Need-slice-aggregate-factor-and-fill-5
-slice-aggregate-factor-and-fill-5 c = search needs
-
-slice-aggregate-factor-and-fill-6 : tie.Need-slice-aggregate-factor-and-fill-6
-slice-aggregate-factor-and-fill-6 c = search needs
-
-slice-aggregate-factor-and-fill-7 : tie.Need-slice-aggregate-factor-and-fill-7
-slice-aggregate-factor-and-fill-7 c = search needs
-
-slice-aggregate-factor-and-fill-8 : tie.Need-slice-aggregate-factor-and-fill-8
-slice-aggregate-factor-and-fill-8 c = search needs
-
-factor-and-fill-requires-2 : tie.Need-factor-and-fill-requires-2
-factor-and-fill-requires-2 c κs =
-    let start = c .before .before .before .before .before .before .before .before .before .before .before in
-    let room = sized 30 (start .args .m) (start .args .n) (c .before .before .before .before .before .if2 .taken) (start .pre .few) in
-    (start .pre, record { for-entries = room .1; for-rows = room .0; for-solved = room .1 }, room .0)
-
-same-length-2 : tie.Need-same-length-2
-same-length-2 c = search needs
-
-returns-2 : tie.Need-returns-2
-returns-2 c = search needs
-
-slice-aggregate-factor-and-fill-9 : tie.Need-slice-aggregate-factor-and-fill-9
-slice-aggregate-factor-and-fill-9 c = search needs
-
-slice-aggregate-factor-and-fill-10 : tie.Need-slice-aggregate-factor-and-fill-10
-slice-aggregate-factor-and-fill-10 c = search needs
-
-slice-aggregate-factor-and-fill-11 : tie.Need-slice-aggregate-factor-and-fill-11
-slice-aggregate-factor-and-fill-11 c = search needs
-
-slice-aggregate-factor-and-fill-12 : tie.Need-slice-aggregate-factor-and-fill-12
-slice-aggregate-factor-and-fill-12 c = search needs
-
-factor-and-fill-requires-3 : tie.Need-factor-and-fill-requires-3
-factor-and-fill-requires-3 c κs =
-    let start = c .before .before .before .before .before .before .before .before .before .before .before in
-    let room = sized 255 (start .args .m) (start .args .n) (start .pre .few-nodes) (start .pre .few) in
-    (start .pre, record { for-entries = room .1; for-rows = room .0; for-solved = room .1 }, room .0)
-
-same-length-3 : tie.Need-same-length-3
-same-length-3 c = search needs
-
-returns-3 : tie.Need-returns-3
-returns-3 c = search needs
+requires-3 : tie.Need-solve-general-thomas-requires-3
+requires-3 c κs =
+    let p = c .before .before .before .before .before .before .before .before .before .before .before in
+    let r = room 255 p (p .pre .few-nodes) in
+    (p .pre, record { for-entries = r .1; for-rows = r .0; for-solved = r .1 }, r .0)
 
 pub fill-spec : {M : Type 1} → statement M
 fill-spec =
     tie.close
     (tie.spec
-    slice-aggregate-factor-and-fill
-    slice-aggregate-factor-and-fill-2
-    slice-aggregate-factor-and-fill-3
-    slice-aggregate-factor-and-fill-4
-    factor-and-fill-requires
-    same-length
-    returns
-    slice-aggregate-factor-and-fill-5
-    slice-aggregate-factor-and-fill-6
-    slice-aggregate-factor-and-fill-7
-    slice-aggregate-factor-and-fill-8
-    factor-and-fill-requires-2
-    same-length-2
-    returns-2
-    slice-aggregate-factor-and-fill-9
-    slice-aggregate-factor-and-fill-10
-    slice-aggregate-factor-and-fill-11
-    slice-aggregate-factor-and-fill-12
-    factor-and-fill-requires-3
-    same-length-3
-    returns-3)
+    (λ c. search needs)
+    (λ c. search needs)
+    (λ c. search needs)
+    (λ c. search needs)
+    requires-1
+    (λ c. search needs)
+    (λ c. search needs)
+    (λ c. search needs)
+    (λ c. search needs)
+    (λ c. search needs)
+    (λ c. search needs)
+    requires-2
+    (λ c. search needs)
+    (λ c. search needs)
+    (λ c. search needs)
+    (λ c. search needs)
+    (λ c. search needs)
+    (λ c. search needs)
+    requires-3
+    (λ c. search needs)
+    (λ c. search needs))

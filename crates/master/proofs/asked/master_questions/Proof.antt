@@ -10,7 +10,7 @@ use lib.ListN.{drop, length}
 use borrow.Author.Needs.{needs}
 use borrow.Author.Tests.{le-leb, lt-leb, eq-eqb, ne-eqb, not-true, not-false}
 use Rattle.rules.specs.Questions.{Question, firstNo}
-use Rattle.rules.specs.Master.{setOf, masterQuestions}
+use Rattle.rules.specs.Master.{setOf, masterQuestions, shapeQuestions, numberQuestions}
 use Rattle.rules.proofs.Questions.{yes-to, no-to}
 use Rattle.rules.proofs.Build.{by-order}
 use Rattle.questions.proofs.Tests.{no, yes}
@@ -28,27 +28,27 @@ abbrev Past : ℕ → tie.Start → Type 0
 Past k p = firstNo (asked p) ≡ firstNo (drop k (asked p))
 
 past-1 : (c : tie.Else1) → Past 1 (c .before .before)
-unfolding questionsBefore masterQuestions
+unfolding questionsBefore masterQuestions shapeQuestions numberQuestions
 past-1 c = yes-to _ _ (yes (c .before .valid-order .ensures) (c .if1 .left))
 
 past-2 : (c : tie.Else2) → Past 2 (c .before .before .before)
-unfolding questionsBefore masterQuestions
+unfolding questionsBefore masterQuestions shapeQuestions numberQuestions
 past-2 c = past-1 (c .before) ∙ yes-to _ _ (le-leb 2 _ (c .if2 .left))
 
 past-3 : (c : tie.Else3) → Past 3 (c .before .before .before .before)
-unfolding questionsBefore masterQuestions
+unfolding questionsBefore masterQuestions shapeQuestions numberQuestions
 past-3 c = past-2 (c .before) ∙ yes-to _ _ (le-leb _ 257 (c .if3 .left))
 
 past-4 : (c : tie.Else4) → Past 4 (c .before .before .before .before .before)
-unfolding questionsBefore masterQuestions
+unfolding questionsBefore masterQuestions shapeQuestions numberQuestions
 past-4 c = past-3 (c .before) ∙ yes-to _ _ (eq-eqb _ _ (c .if4 .left))
 
 past-5 : (c : tie.Else5) → Past 5 (c .before .before .before .before .before .before)
-unfolding questionsBefore masterQuestions
+unfolding questionsBefore masterQuestions shapeQuestions numberQuestions
 past-5 c = past-4 (c .before) ∙ yes-to _ _ (eq-eqb _ _ (c .if5 .left))
 
 past-6 : (c : tie.Else6) → Past 6 (c .before .before .before .before .before .before .before .before)
-unfolding questionsBefore masterQuestions
+unfolding questionsBefore masterQuestions shapeQuestions numberQuestions
 past-6 c = past-5 (c .before .before) ∙ yes-to _ _ (not-false _ (c .if6 .left))
 
 -- behind the first question the order is small
@@ -64,26 +64,26 @@ valid-order-requires : tie.Need-valid-order-requires
 valid-order-requires c κs = search needs
 
 returns : tie.Need-returns
-unfolding questionsBefore masterQuestions
+unfolding questionsBefore masterQuestions shapeQuestions numberQuestions
 returns c = sym (no-to _ (no (c .before .valid-order .ensures) (c .if1 .taken)))
 
 returns-2 : tie.Need-returns-2
-unfolding questionsBefore masterQuestions
+unfolding questionsBefore masterQuestions shapeQuestions numberQuestions
 returns-2 c = sym (past-1 (c .before) ∙ no-to _ (lt-leb 2 _ (c .if2 .taken)))
 
 returns-3 : tie.Need-returns-3
-unfolding questionsBefore masterQuestions
+unfolding questionsBefore masterQuestions shapeQuestions numberQuestions
 returns-3 c = sym (past-2 (c .before) ∙ no-to _ (lt-leb _ 257 (c .if3 .taken)))
 
 sub-m : tie.Need-sub-m
 sub-m c = let h = order-bounds (c .before .before) in omega arith
 
 returns-4 : tie.Need-returns-4
-unfolding questionsBefore masterQuestions
+unfolding questionsBefore masterQuestions shapeQuestions numberQuestions
 returns-4 c = sym (past-3 (c .before) ∙ no-to _ (ne-eqb _ _ (c .if4 .taken)))
 
 returns-5 : tie.Need-returns-5
-unfolding questionsBefore masterQuestions
+unfolding questionsBefore masterQuestions shapeQuestions numberQuestions
 returns-5 c = sym (past-4 (c .before) ∙ no-to _ (ne-eqb _ _ (c .if5 .taken)))
 
 sub-fits : tie.Need-sub-fits
@@ -99,15 +99,15 @@ given-within-requires : tie.Need-given-within-requires
 given-within-requires c κs = search needs
 
 returns-6 : tie.Need-returns-6
-unfolding questionsBefore masterQuestions
+unfolding questionsBefore masterQuestions shapeQuestions numberQuestions
 returns-6 c = sym (past-5 (c .before .before) ∙ no-to _ (not-true _ (c .if6 .taken)))
 
 returns-7 : tie.Need-returns-7
-unfolding questionsBefore masterQuestions
+unfolding questionsBefore masterQuestions shapeQuestions numberQuestions
 returns-7 c = sym (past-6 (c .before) ∙ no-to _ (no (c .before .before .given-within .ensures) (c .if7 .taken)))
 
 returns-8 : tie.Need-returns-8
-unfolding questionsBefore masterQuestions firstNo
+unfolding questionsBefore masterQuestions shapeQuestions numberQuestions firstNo
 returns-8 c = sym (past-6 (c .before) ∙ yes-to 4 [] (yes (c .before .before .given-within .ensures) (c .if7 .left)))
 
 pub master-questions-spec : {M : Type 1} → statement M
