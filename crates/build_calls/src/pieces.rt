@@ -1,9 +1,9 @@
 // A build that says yes: made, shown in a line, compared and counted.
 use rules::BuildAnswer;
-use trials::Tally;
-use trials::buffer;
-use trials::builds;
-use trials::print;
+use test_common::Tally;
+use test_common::buffer;
+use test_common::builds;
+use test_common::print;
 
 // The state of an axis has m = (order - 1) / 2 numbers.
 pub fn built(
@@ -21,7 +21,7 @@ pub fn built(
     let start_state = builds::state(start_kind, axes, order / 2);
     let end_state = builds::state(end_kind, axes, order / 2);
     let config = builds::config(order, 0.0, s_max, start_state, end_state);
-    spline::from_waypoints_view(config, points, axes, waypoints, start, end, cells)
+    build::from_waypoints_view(config, points, axes, waypoints, start, end, cells)
 }
 
 // What a line shows of an answer before its coefficients.
@@ -44,7 +44,7 @@ pub fn judged(
     inv_ds: f64,
 ) -> Tally {
     let served = builds::is_served(answer, unlike, order, segments, axes, s_max, inv_ds);
-    trials::counted(t, served)
+    test_common::counted(t, served)
 }
 
 // A line with all coefficients.

@@ -1,10 +1,10 @@
 // A refused build: what it is given, what is looked at after it, its line and its count. The buffer holds a pattern before,
 // with cells on both sides that are not lent; afterwards every cell has to have the same bits.
 use rules::SplineConfig;
-use trials::Tally;
-use trials::buffer;
-use trials::builds;
-use trials::print;
+use test_common::Tally;
+use test_common::buffer;
+use test_common::builds;
+use test_common::print;
 
 // One axis unless said otherwise. The first waypoint is 0 and the others are `waypoint`; the numbers of
 // a state are all alike. Lists of more than 32 numbers are cut there, a buffer of more than 48 cells too.
@@ -82,7 +82,7 @@ fn asked(c: Call) -> Outcome {
     let n = buffer::least(c.cells, 48);
     let mut cells = [0.0; 64];
     buffer::fill(&mut cells, 0.5);
-    let answer = spline::from_waypoints_view(
+    let answer = build::from_waypoints_view(
         config(c),
         c.points,
         c.axes,
@@ -108,7 +108,7 @@ pub fn refused(t: Tally, name: &[u8], expected: u32, c: Call) -> Tally {
     } else {
         print::text(b", record not zero\n");
     }
-    trials::counted(
+    test_common::counted(
         t,
         builds::is_refusal(r.number, expected, r.blank, r.changed),
     )
@@ -120,7 +120,7 @@ pub fn accepted(t: Tally) -> Tally {
     print::answered(b"with nothing changed", r.number);
     print::cells_changed(r.changed);
     print::text(b"\n");
-    trials::counted(t, is_accepted(r))
+    test_common::counted(t, is_accepted(r))
 }
 
 fn is_accepted(r: Outcome) -> bool {

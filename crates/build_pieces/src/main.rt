@@ -4,12 +4,12 @@
 // this program.
 mod pieces;
 
-use trials::Tally;
+use test_common::Tally;
 
 fn main() {
     let t = Tally {
         calls: 0,
         unlike: 0,
     };
-    trials::report(pieces::all(t), b" calls, ");
+    test_common::report(pieces::all(t), b" calls, ");
 }

@@ -8,11 +8,11 @@ use build_calls::pieces::judged;
 use build_calls::pieces::one_segment;
 use build_calls::pieces::shown;
 use rules::BuildAnswer;
-use trials::Tally;
-use trials::bits;
-use trials::buffer;
-use trials::builds;
-use trials::print;
+use test_common::Tally;
+use test_common::bits;
+use test_common::buffer;
+use test_common::builds;
+use test_common::print;
 
 // Range 0 to 49. The coefficients are piece a's: no state, so the range does not count.
 fn piece_m(t: Tally) -> Tally {
@@ -268,7 +268,7 @@ fn refused(t: Tally, name: &[u8], order: usize, points: usize, n: usize, number:
     print::text(b"\n");
     let path = answer.path;
     let blank = builds::is_blank(path);
-    trials::counted(
+    test_common::counted(
         t,
         builds::is_refusal(answer.number, number, blank, r.changed),
     )

@@ -8,7 +8,7 @@
 use build_calls::refusals::accepted;
 use build_calls::refusals::refused;
 use build_calls::refusals::served;
-use trials::Tally;
+use test_common::Tally;
 
 // Is the order 3, 5 or 7? (Order 9 the Rust takes.)
 fn question_1(t: Tally) -> Tally {
@@ -240,5 +240,5 @@ fn main() {
         calls: 0,
         unlike: 0,
     };
-    trials::report(all(t), b" calls, ");
+    test_common::report(all(t), b" calls, ");
 }

@@ -99,7 +99,7 @@ pub extern "C" fn spline_build(
         start_state: state_of(start_kind, start_rows, start_cols),
         end_state: state_of(end_kind, end_rows, end_cols),
     };
-    let answer = spline::from_waypoints_view(config, points, axes, waypoints, start, end, coeffs);
+    let answer = build::from_waypoints_view(config, points, axes, waypoints, start, end, coeffs);
     if answer.number == 0 {
         *inv_ds = answer.path.inv_ds;
     }

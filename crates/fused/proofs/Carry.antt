@@ -10,8 +10,8 @@ use lib.Arith.{le→nltb, lt-of-le-ne}
 use lib.Pow.{pow-add, pow-pos}
 use lib.Ieee.Bits.{is-true, is-false}
 use Rattle.fused.specs.Words.{flag}
-use Rattle.rounding.proofs.Sums.{same-test}
-use Rattle.rounding.proofs.Numbers.{less-or-not, sub-mul}
+use Rattle.law_rounding.proofs.Sums.{same-test}
+use Rattle.law_rounding.proofs.Numbers.{less-or-not, sub-mul}
 
 abbrev pick : Bool → ℕ
 pick t = cond t 1 0

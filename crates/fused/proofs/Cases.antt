@@ -10,11 +10,11 @@ use lib.IntN.{pos}
 use lib.Pow.{pow-add, pow-pos, pow-mono}
 use lib.Ieee.{Float, fin, binary64, round, ofBits}
 use lib.Ieee as Ieee
-use Rattle.rounding.specs.Sticky.{Sticky}
-use Rattle.rounding.proofs.Numbers.{less-or-not, sub-mul}
-use Rattle.rounding.proofs.Sticky.{sticky-add, sticky-from, sticky-less, sticky-below, sticky-above}
-use Rattle.rounding.proofs.Sums.{like-times, more-times, less-times, sum-none}
-use Rattle.rounding.proofs.Values.{round-move, round-zero}
+use Rattle.law_rounding.specs.Sticky.{Sticky}
+use Rattle.law_rounding.proofs.Numbers.{less-or-not, sub-mul}
+use Rattle.law_rounding.proofs.Sticky.{sticky-add, sticky-from, sticky-less, sticky-below, sticky-above}
+use Rattle.law_rounding.proofs.Sums.{like-times, more-times, less-times, sum-none}
+use Rattle.law_rounding.proofs.Values.{round-move, round-zero}
 use Rattle.fused.specs.Words.{Placed}
 use Rattle.fused.proofs.Carry.{high-lt}
 

@@ -18,13 +18,13 @@ use lib.Ieee.Back.{round-whole}
 use lib.Ieee.Bits.{is-true, is-false}
 use lib.Ieee.Exact.{HasValue}
 use lib.Ieee.Nearest.{div-same}
-use Rattle.rounding.specs.Sticky.{Sticky}
-use Rattle.rounding.specs.Weight.{weight}
-use Rattle.rounding.proofs.Numbers.{less-or-not}
-use Rattle.rounding.proofs.Sticky.{sticky-cut, sticky-add, sticky-from}
-use Rattle.rounding.proofs.Word.{round-sticky}
-use Rattle.rounding.proofs.Sums.{not-not, like-times, more-times}
-use Rattle.rounding.proofs.Values.{bits-value, add-values, power-times, round-move}
+use Rattle.law_rounding.specs.Sticky.{Sticky}
+use Rattle.law_rounding.specs.Weight.{weight}
+use Rattle.law_rounding.proofs.Numbers.{less-or-not}
+use Rattle.law_rounding.proofs.Sticky.{sticky-cut, sticky-add, sticky-from}
+use Rattle.law_rounding.proofs.Word.{round-sticky}
+use Rattle.law_rounding.proofs.Sums.{not-not, like-times, more-times}
+use Rattle.law_rounding.proofs.Values.{bits-value, add-values, power-times, round-move}
 use Rattle.fused.proofs.Shift.{Marked}
 use Rattle.fused.proofs.Unpack.{weight-more}
 

@@ -10,7 +10,7 @@ use lib.Ieee.Bits.{ofBits-toBits}
 use lib.Ieee.Exact.{HasValue}
 use lib.Ieee.Scale.{finite}
 use Rattle.rules.specs.Fused.{fused}
-use Rattle.rounding.proofs.Values.{finite-field, bits-value}
+use Rattle.law_rounding.proofs.Values.{finite-field, bits-value}
 use Rattle.fused.specs.Parts.{field, magnitude, summed}
 use Rattle.fused.proofs.Unpack.{magnitude-zero, magnitude-pos}
 use Rattle.fused.proofs.Values.{fused-values, zero-product, zero-addend}

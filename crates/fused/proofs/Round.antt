@@ -12,11 +12,11 @@ use lib.Count.{leadingZeros, leading-top}
 use lib.Ieee.{Float, binary64, round, nearest, hid, ones, top, ofBits}
 use lib.Ieee.Fits.{nearest-le}
 use lib.Ieee.Nearest.{closest}
-use Rattle.rounding.specs.Sticky.{Sticky}
-use Rattle.rounding.proofs.Numbers.{less-or-not, compare-lt, compare-gt, compare-eq}
-use Rattle.rounding.proofs.Sticky.{sticky-cut, sticky-again}
-use Rattle.rounding.proofs.Word.{round-word}
-use Rattle.rounding.proofs.Values.{round-shift}
+use Rattle.law_rounding.specs.Sticky.{Sticky}
+use Rattle.law_rounding.proofs.Numbers.{less-or-not, compare-lt, compare-gt, compare-eq}
+use Rattle.law_rounding.proofs.Sticky.{sticky-cut, sticky-again}
+use Rattle.law_rounding.proofs.Word.{round-word}
+use Rattle.law_rounding.proofs.Values.{round-shift}
 use Rattle.fused.proofs.Shift.{Marked, moved}
 
 -- half the unit, less one, and one more where the whole part is odd: the sum reaches the next unit just where the whole part is to move up

@@ -5,8 +5,8 @@ use native.Mathlib.Nat.{le-of-eq, le-trans, lt-of-le-of-lt, lt-of-lt-of-le, add-
 use native.Mathlib.Omega.{arith}
 use lib.Arith.{digits-lt, mod-mul}
 use lib.Pow.{pow-add, pow-pos, pow-mono, shr-lt}
-use Rattle.rounding.specs.Sticky.{Sticky}
-use Rattle.rounding.proofs.Sticky.{sticky-cut, sticky-again}
+use Rattle.law_rounding.specs.Sticky.{Sticky}
+use Rattle.law_rounding.proofs.Sticky.{sticky-cut, sticky-again}
 
 -- y is x, with its last digit set unless r is 0
 abbrev pub Marked : ℕ → ℕ → ℕ → Type 0

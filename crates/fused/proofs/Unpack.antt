@@ -9,9 +9,9 @@ use lib.Dec.{lit≤}
 use lib.Pow.{pow-add, pow-pos, pow-mono, shl-lt}
 use lib.Count.{leadingZeros}
 use lib.Ieee.{binary64, sum}
-use Rattle.rounding.specs.Weight.{weight}
-use Rattle.rounding.proofs.Numbers.{less-or-not}
-use Rattle.rounding.proofs.Sums.{sum-same}
+use Rattle.law_rounding.specs.Weight.{weight}
+use Rattle.law_rounding.proofs.Numbers.{less-or-not}
+use Rattle.law_rounding.proofs.Sums.{sum-same}
 use Rattle.fused.specs.Parts.{field, magnitude}
 use Rattle.fused.specs.Words.{Placed}
 use Rattle.fused.proofs.Carry.{mul-lt-pow}

@@ -12,8 +12,8 @@ use lib.Ieee.Fits.{and-i, down-pos}
 use lib.Ieee.Exact.{HasValue}
 use lib.Ieee.Scale.{finite}
 use Rattle.rules.specs.Fused.{exactProduct, fused}
-use Rattle.rounding.proofs.Sums.{by-signs, sum-like, sum-more}
-use Rattle.rounding.proofs.Values.{power-add, cross-product, value-scaled, add-values, mul-values, round-zero}
+use Rattle.law_rounding.proofs.Sums.{by-signs, sum-like, sum-more}
+use Rattle.law_rounding.proofs.Values.{power-add, cross-product, value-scaled, add-values, mul-values, round-zero}
 
 -- ---- finite operands
 

@@ -9,11 +9,11 @@ use lib.Dec.{leb, lit≤}
 use lib.Pow.{pow-add, pow-pos, pow-mono, shl-lt}
 use lib.Ieee.{Float, binary64, unlike, top, round}
 use lib.Ieee as Ieee
-use Rattle.rounding.specs.Sticky.{Sticky}
-use Rattle.rounding.proofs.Numbers.{less-or-not}
-use Rattle.rounding.proofs.Sticky.{sticky-le}
-use Rattle.rounding.proofs.Word.{sum-sticky}
-use Rattle.rounding.proofs.Sums.{sum-same, like-times, more-times, less-times}
+use Rattle.law_rounding.specs.Sticky.{Sticky}
+use Rattle.law_rounding.proofs.Numbers.{less-or-not}
+use Rattle.law_rounding.proofs.Sticky.{sticky-le}
+use Rattle.law_rounding.proofs.Word.{sum-sticky}
+use Rattle.law_rounding.proofs.Sums.{sum-same, like-times, more-times, less-times}
 use Rattle.fused.specs.Parts.{field, magnitude, Common, Nonzero, summed, biasedSum, Converts}
 use Rattle.fused.proofs.Carry.{mul-lt-pow}
 use Rattle.fused.proofs.Cases.{signs-like, signs-unlike}

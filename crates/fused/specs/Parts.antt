@@ -4,7 +4,7 @@ use mathlib.Core.Path.{_≡_}
 use mathlib.Core.Bool.{Bool, not, cond}
 use lib.Dec.{leb}
 use lib.Ieee.{Float, binary64, unlike, round, sum, hid, ones, top}
-use Rattle.rounding.specs.Weight.{weight}
+use Rattle.law_rounding.specs.Weight.{weight}
 
 -- the exponent's field
 abbrev pub field : ℕ → ℕ

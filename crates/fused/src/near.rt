@@ -7,7 +7,7 @@ ghost use Prim.Native.Nat.{ℕ, _+_, _-_, _*_, _%_, _^_, _≤_, _<_};
 ghost use mathlib.Core.Logic.{_⊎_};
 ghost use mathlib.Core.Bool.{true, false, cond};
 ghost use lib.Ieee.Exact.{HasValue};
-ghost use Rattle.rounding.specs.Sticky.{Sticky};
+ghost use Rattle.law_rounding.specs.Sticky.{Sticky};
 ghost use Rattle.fused.specs.Words.{value};
 ghost use Rattle.fused.specs.Parts.{biasedSum, Converts};
 use super::HIDDEN;

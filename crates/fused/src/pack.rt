@@ -7,7 +7,7 @@ ghost use Prim.Native.Nat.{ℕ, _+_, _*_, _^_, _≤_, _<_, min};
 ghost use mathlib.Core.Bool.{cond};
 ghost use lib.Ieee.{binary64, round, hid, ones, top, ofBits};
 ghost use lib.Ieee.Nearest.{closest};
-ghost use Rattle.rounding.specs.Sticky.{Sticky};
+ghost use Rattle.law_rounding.specs.Sticky.{Sticky};
 use super::HIDDEN;
 use super::SIGN;
 use super::words::marked;

@@ -3,7 +3,7 @@
 ghost use mathlib.Core.Path.{_≡_};
 ghost use Prim.Native.Nat.{_+_, _-_, _*_, _/_, _^_, _≤_, _<_};
 ghost use lib.Dec.{ltb};
-ghost use Rattle.rounding.specs.Sticky.{Sticky};
+ghost use Rattle.law_rounding.specs.Sticky.{Sticky};
 ghost use Rattle.fused.specs.Words.{value, flag};
 
 // `high` * 2^64 + `low`.

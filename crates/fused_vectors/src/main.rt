@@ -3,9 +3,9 @@
 // and how many came out unlike.
 ghost use Prim.Native.Nat.{_≤_};
 use libc::STDIN_FILENO;
-use trials::Tally;
-use trials::bits;
-use trials::digits;
+use test_common::Tally;
+use test_common::bits;
+use test_common::digits;
 
 fn agrees(line: &[u8; 68]) -> bool {
     let r = fused::mul_add(
@@ -50,5 +50,5 @@ fn replay() -> Tally {
 }
 
 fn main() {
-    trials::report(replay(), b" triples, ");
+    test_common::report(replay(), b" triples, ");
 }

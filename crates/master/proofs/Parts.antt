@@ -11,7 +11,7 @@ use Rattle.rules.specs.Lists.{all}
 use Rattle.rules.specs.Master.{within}
 use Rattle.rules.proofs.Lists.{part-inside, all-split, all-none-left}
 use Rattle.rules.proofs.Cells.{next-part}
-use Rattle.equations.specs.Segment.{SegmentShaped, segmentPart}
+use Rattle.master_equations.specs.Segment.{SegmentShaped, segmentPart}
 use Rattle.master.specs.Pass.{Shaped}
 
 -- the range of what is left at segment i: its own part, and what is left after it

@@ -17,12 +17,12 @@ use Rattle.rules.specs.Questions.{Question, ask, firstNo}
 use Rattle.rules.specs.Tables.{mOf}
 use Rattle.rules.specs.Master.{MasterSet, Equations, within, same, at, coefficient, atEnd, segments, meetsStart}
 use Rattle.rules.specs.Master.{MasterSays, masterQuestions, shapeQuestions, numberQuestions, masterNumber, masterSays, endpointEquations, jointEquations, checkMaster}
-use Rattle.rounding.proofs.Sums.{same-test}
+use Rattle.law_rounding.proofs.Sums.{same-test}
 use Rattle.rules.proofs.Lists.{every-at, every-of}
 use Rattle.rules.proofs.Build.{by-order, coefficient-count}
 use Rattle.rules.proofs.Questions.{numbered, never, answerAt, said-yes}
 use Rattle.rules.proofs.Master.{same→eq, eq→same, to-equations, of-equations}
-use Rattle.equations.specs.Segment.{segmentMeets}
+use Rattle.master_equations.specs.Segment.{segmentMeets}
 use Rattle.master.specs.Pass.{questionsBefore, Shaped, meetsUpTo, passSays}
 
 -- ---- the questions

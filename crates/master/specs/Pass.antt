@@ -9,7 +9,7 @@ use lib.ListN.{length}
 use Rattle.rules.specs.Lists.{all, every}
 use Rattle.rules.specs.Questions.{Question, ask}
 use Rattle.rules.specs.Master.{MasterSet, MasterSays, shapeQuestions, within, meetsStart}
-use Rattle.equations.specs.Segment.{segmentMeets}
+use Rattle.master_equations.specs.Segment.{segmentMeets}
 
 -- ---- the questions
 

@@ -6,7 +6,7 @@ ghost use Rattle.rules.specs.Lists.{all};
 ghost use Rattle.rules.specs.Questions.{firstNo};
 ghost use Rattle.rules.specs.Master.{setOf, within};
 ghost use Rattle.master.specs.Pass.{questionsBefore};
-use equations::range::all_within;
+use master_equations::range::all_within;
 use questions::valid_order;
 
 // The last question, of all but the table.

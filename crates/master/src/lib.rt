@@ -7,8 +7,8 @@ ghost use Rattle.master.specs.Pass.{Shaped, passSays};
 mod asked;
 
 use crate::asked::master_questions;
-use equations::segment::check_segment;
-use equations::segment::meets_start;
+use master_equations::segment::check_segment;
+use master_equations::segment::meets_start;
 use rules::MasterAnswer;
 
 pub fn is_yes(answer: MasterAnswer) -> bool

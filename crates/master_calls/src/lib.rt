@@ -1,9 +1,9 @@
 // Master checks of numbers that stand in one list, and what the programs that make them print. Answers are
 // numbers here: 0 is no, 1 is yes, and any other is a refusal's.
 use rules::MasterAnswer;
-use trials::Tally;
-use trials::buffer;
-use trials::print;
+use test_common::Tally;
+use test_common::buffer;
+use test_common::print;
 
 // How many waypoints there are, and how many numbers of the start and of the end. The table is what is left.
 pub struct Lengths {
@@ -58,7 +58,7 @@ pub fn checked(
     let answer = check(order, n, numbers);
     print::text(name);
     said(answer);
-    trials::counted(t, answer == expected)
+    test_common::counted(t, answer == expected)
 }
 
 // A set whose states have (order - 1)/2 numbers.

@@ -6,7 +6,7 @@ use master_calls::Lengths;
 use master_calls::of;
 use master_calls::of_d;
 use master_calls::of_zeros;
-use trials::Tally;
+use test_common::Tally;
 
 // "Its check: yes; with last number -1: no."
 fn piece_e(t: Tally) -> Tally {
@@ -122,5 +122,5 @@ fn main() {
     let t = equations_off(t);
     let t = at_the_limits(t);
     let t = longest(t);
-    trials::report(t, b" checks, ");
+    test_common::report(t, b" checks, ");
 }

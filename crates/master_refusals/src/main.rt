@@ -5,7 +5,7 @@
 use master_calls::Lengths;
 use master_calls::of_d;
 use master_calls::of_zeros;
-use trials::Tally;
+use test_common::Tally;
 
 fn lengths(points: usize, start: usize, end: usize) -> Lengths {
     Lengths { points, start, end }
@@ -96,5 +96,5 @@ fn main() {
     let t = question_6(t);
     let t = question_7(t);
     let t = two_at_once(t);
-    trials::report(t, b" checks, ");
+    test_common::report(t, b" checks, ");
 }

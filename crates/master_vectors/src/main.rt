@@ -6,9 +6,9 @@
 // no and with a refusal, and how many of the answers were unlike.
 use libc::STDIN_FILENO;
 use master_calls::Lengths;
-use trials::buffer;
-use trials::digits;
-use trials::print;
+use test_common::buffer;
+use test_common::digits;
+use test_common::print;
 
 struct Seen {
     sets: u64,

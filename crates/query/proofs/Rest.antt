@@ -21,9 +21,9 @@ use Rattle.rules.specs.declared.SegmentUnits.{SegmentUnits}
 use Rattle.rules.specs.declared.Lookup.the-variants.{At}
 use Rattle.rules.specs.Floats.{_⊖_, +0, +1, ofCount}
 use Rattle.rules.specs.Query.{wholePart, exactRest, located, lookupSays}
-use Rattle.rounding.proofs.Numbers.{less-or-not}
-use Rattle.rounding.proofs.Held.{Held, fits-held, held-fits, round-held, difference-held}
-use Rattle.rounding.proofs.Values.{value-scaled, sub-self}
+use Rattle.law_rounding.proofs.Numbers.{less-or-not}
+use Rattle.law_rounding.proofs.Held.{Held, fits-held, held-fits, round-held, difference-held}
+use Rattle.law_rounding.proofs.Values.{value-scaled, sub-self}
 
 -- a count of no more digits than the format has is its own number
 count-value : (n : ℕ) → n ≤ 2 ^ 53 → HasValue (ofCount n) false n 1

@@ -10,7 +10,7 @@ use Rattle.rules.specs.declared.PathRecord.{PathRecord}
 use Rattle.rules.specs.Floats.{+0, finite}
 use Rattle.rules.specs.Build.{validRange, invDs}
 use Rattle.rules.specs.Query.{inRange, clamped, scaled}
-use Rattle.rounding.proofs.NotNan.{sub-number, mul-number, finite-between, finite-not-outside, above-zero, equal-positive}
+use Rattle.law_rounding.proofs.NotNan.{sub-number, mul-number, finite-between, finite-not-outside, above-zero, equal-positive}
 
 -- what the question says: each of its tests but the order of the ends, which is not needed here
 each : (a b c d e f : Bool) → T (a && b && c && d && e && f) → T a × T b × T d × T e × T f

@@ -3,10 +3,10 @@
 // query is asked by way of a path, so that the functions above it are run too.
 use rules::PathParam;
 use rules::PathRecord;
-use trials::Tally;
-use trials::bits;
-use trials::buffer;
-use trials::print;
+use test_common::Tally;
+use test_common::bits;
+use test_common::buffer;
+use test_common::print;
 
 // What a query is given, but for the numbers of its table: how many of them are lent, and how many cells of each
 // buffer. A buffer of more than 12 cells is cut there.
@@ -69,7 +69,7 @@ fn record(c: Call) -> PathRecord {
         s_min: PathParam(c.s_min),
         s_max: PathParam(c.s_max),
         inv_ds: c.inv_ds,
-        mode: trials::mode(c.clamp),
+        mode: test_common::mode(c.clamp),
     }
 }
 
@@ -107,7 +107,7 @@ fn asked(c: Call, table: &[f64]) -> Outcome {
     buffer::fill(&mut dq, 0.5);
     buffer::fill(&mut ddq, 0.5);
     buffer::fill(&mut dddq, 0.5);
-    let number = path::eval_path(
+    let number = query_path::eval_path(
         record(c),
         &table[0..given],
         PathParam(c.s),
@@ -190,12 +190,12 @@ fn shown(name: &[u8], level: u8, r: Outcome) {
 pub fn served(t: Tally, name: &[u8], c: Call, table: &[f64], wanted: &[f64; 4]) -> Tally {
     let r = asked(c, table);
     shown(name, c.level, r);
-    trials::counted(t, is_served(r, c, wanted))
+    test_common::counted(t, is_served(r, c, wanted))
 }
 
 pub fn refused(t: Tally, name: &[u8], c: Call, table: &[f64], number: u32) -> Tally {
     let r = asked(c, table);
     print::answered(name, r.number);
     changed(r);
-    trials::counted(t, is_refusal(r, number))
+    test_common::counted(t, is_refusal(r, number))
 }

@@ -4,7 +4,7 @@
 // None is from this program.
 use query_calls::Call;
 use query_calls::served;
-use trials::Tally;
+use test_common::Tally;
 
 // Range 0 to 49, one segment, s 49: "tau 1 - 2^-53, not 1". The position is tau itself, and the first derivative
 // is inv_ds. "Clamp with s 60 the same."
@@ -159,5 +159,5 @@ fn main() {
         calls: 0,
         unlike: 0,
     };
-    trials::report(all(t), b" calls, ");
+    test_common::report(all(t), b" calls, ");
 }

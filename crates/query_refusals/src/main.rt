@@ -4,7 +4,7 @@
 // before a query". Each time every cell of the four buffers, and of those beside them that are not lent, has to
 // have the same bits afterwards.
 use query_calls::Call;
-use trials::Tally;
+use test_common::Tally;
 
 // Order 3, one segment, one axis, range 0 to 1, s 0.5, level 3. Each call below is this one with what its line
 // names changed.
@@ -258,5 +258,5 @@ fn main() {
         calls: 0,
         unlike: 0,
     };
-    trials::report(all(t), b" calls, ");
+    test_common::report(all(t), b" calls, ");
 }

@@ -11,11 +11,11 @@ mod table;
 use libc::STDIN_FILENO;
 use rules::PathParam;
 use rules::PathRecord;
-use trials::Tally;
-use trials::bits;
-use trials::buffer;
-use trials::digits;
-use trials::print;
+use test_common::Tally;
+use test_common::bits;
+use test_common::buffer;
+use test_common::digits;
+use test_common::print;
 
 struct Seen {
     queries: u64,
@@ -35,7 +35,7 @@ fn record(line: &[u8; 77]) -> PathRecord {
         s_min: PathParam(digits::float(line, 26)),
         s_max: PathParam(digits::float(line, 43)),
         inv_ds: digits::float(line, 60),
-        mode: trials::mode(digits::number(line, 15, 16) == 1),
+        mode: test_common::mode(digits::number(line, 15, 16) == 1),
     }
 }
 
@@ -199,5 +199,5 @@ fn main() {
         calls: seen.numbers,
         unlike: seen.unlike,
     };
-    trials::report(t, b" numbers, ");
+    test_common::report(t, b" numbers, ");
 }

@@ -5,8 +5,8 @@ use mathlib.Core.Bool.{Bool, true, false, _&&_}
 use lib.Dec.{T}
 use lib.Ieee.{binary64, lt}
 use lib.Ieee.Fits.{and-l, and-r}
-use Rattle.rounding.proofs.NotNan.{above-zero}
-use Rattle.rounding.proofs.Signs.{divisor-positive, terms-apart}
+use Rattle.law_rounding.proofs.NotNan.{above-zero}
+use Rattle.law_rounding.proofs.Signs.{divisor-positive, terms-apart}
 use Rattle.rules.specs.declared.PathParam.{PathParam}
 use Rattle.rules.specs.Floats.{+0, _⊖_, finite}
 use Rattle.rules.specs.Build.{invDs, validRange}

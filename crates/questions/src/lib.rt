@@ -1,5 +1,5 @@
 // Document 01's questions before a build, 1 to 9: those that are asked of what a caller gives. (Question
-// 10, whether every pivot is other than zero, is answered by factoring; see the crate `table`.) They
+// 10, whether every pivot is other than zero, is answered by factoring; see the crate `build_table`.) They
 // look at the coefficient buffer's length alone, so that they can be asked without a buffer. And its
 // questions before a query, all but the last, which the lookup answers; see the crate `query`.
 ghost use mathlib.Core.Path.{_≡_};

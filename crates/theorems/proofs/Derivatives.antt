@@ -4,7 +4,7 @@ use Prim.Native.Nat.{ℕ, zero, suc, _+_, _-_, _*_, _<_}
 use native.Mathlib.Nat.{add-zero, zero-mul, mul-zero}
 use native.Mathlib.Omega.{arith}
 use lib.IntN.{ℤ, pos, _+ℤ_, _*ℤ_, +ℤ-idl, +ℤ-comm, zero-*ℤ, *ℤ-zero, one, *ℤ-one}
-use Rattle.integers.proofs.Laws.{one-*ℤ, +ℤ-*ℤ, *ℤ-assoc}
+use Rattle.law_integers.proofs.Laws.{one-*ℤ, +ℤ-*ℤ, *ℤ-assoc}
 use Rattle.rules.specs.Master.{binomial, sumℤ}
 use Rattle.rules.specs.Query.{derivativeFactor}
 use Rattle.theorems.specs.Evaluation.{derivativeAt0, derivativeAt1}

@@ -9,10 +9,10 @@ use lib.Dec.{T, leb, eqb, eqb→eq, leb→le, lit≤}
 use lib.IntN.{ℤ, pos, natAbs, _+ℤ_, _*ℤ_, +ℤ-idl, +ℤ-idr, zero-*ℤ, *ℤ-zero, one, *ℤ-one}
 use lib.ListN.{length}
 use lib.Ieee.{Float, nan, inf, fin, binary64, unlike}
-use Rattle.integers.specs.Signs.{signed}
-use Rattle.integers.proofs.Laws.{one-*ℤ, natAbs-*ℤ}
-use Rattle.rounding.specs.Whole.{wholeOf}
-use Rattle.rounding.proofs.Whole.{HasWhole, whole-test, whole-number, ofInt-whole, mul-whole, Within, within-add, within-mul}
+use Rattle.law_integers.specs.Signs.{signed}
+use Rattle.law_integers.proofs.Laws.{one-*ℤ, natAbs-*ℤ}
+use Rattle.law_rounding.specs.Whole.{wholeOf}
+use Rattle.law_rounding.proofs.Whole.{HasWhole, whole-test, whole-number, ofInt-whole, mul-whole, Within, within-add, within-mul}
 use Rattle.rules.specs.Floats.{_⊕_, _⊗_, _!_, +0, +1, ofCount}
 use Rattle.rules.specs.Fused.{exactProduct, fused}
 use Rattle.rules.specs.Lists.{all, every, listed}

@@ -12,8 +12,8 @@ use lib.ListN.{length, length-map, List·getD-map}
 use lib.Ieee.{Float}
 use lib.Ieee.Bits.{is-true}
 use lib.Ieee.Fits.{and-l, and-r}
-use Rattle.rounding.specs.Whole.{isWhole, wholeOf}
-use Rattle.rounding.proofs.Whole.{HasWhole, whole-test, whole-number}
+use Rattle.law_rounding.specs.Whole.{isWhole, wholeOf}
+use Rattle.law_rounding.proofs.Whole.{HasWhole, whole-test, whole-number}
 use Rattle.rules.specs.declared.BoundaryState.{BoundaryState}
 use Rattle.rules.specs.declared.BoundaryState.the-variants.{None, Given}
 use Rattle.rules.specs.declared.MasterAnswer.the-variants.{Yes, Refused}

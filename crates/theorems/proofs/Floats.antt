@@ -12,8 +12,8 @@ use lib.ListN.{length, length-map, List·getD-append, List·getD-map}
 use lib.Seq.{getD-append-add}
 use lib.Ieee.{Float, binary64}
 use lib.Ieee.Fits.{and-l, and-r}
-use Rattle.rounding.specs.Whole.{isWhole, wholeOf}
-use Rattle.rounding.proofs.Whole.{HasWhole, has-whole, ofInt-whole, Within, within-add, within-sub, within-mul}
+use Rattle.law_rounding.specs.Whole.{isWhole, wholeOf}
+use Rattle.law_rounding.proofs.Whole.{HasWhole, has-whole, ofInt-whole, Within, within-add, within-sub, within-mul}
 use Rattle.rules.specs.Floats.{_⊖_, _⊗_, _!_, +0, ofInts, sumOf}
 use Rattle.rules.specs.Lists.{all, listed}
 use Rattle.rules.specs.Tables.{forOrder}

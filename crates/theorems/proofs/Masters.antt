@@ -12,8 +12,8 @@ use lib.ListN.{length, length-map}
 use lib.Ieee.{Float}
 use lib.Ieee.Bits.{is-true}
 use lib.Ieee.Fits.{and-i, and-r}
-use Rattle.integers.proofs.Laws.{one-*ℤ, *ℤ-assoc}
-use Rattle.rounding.specs.Whole.{isWhole}
+use Rattle.law_integers.proofs.Laws.{one-*ℤ, *ℤ-assoc}
+use Rattle.law_rounding.specs.Whole.{isWhole}
 use Rattle.rules.specs.declared.MasterAnswer.the-variants.{Yes, Refused}
 use Rattle.rules.specs.Floats.{_!_, +0, +1}
 use Rattle.rules.specs.Lists.{all}

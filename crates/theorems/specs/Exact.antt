@@ -8,7 +8,7 @@ use mathlib.Core.List.{List, map}
 use Prim.Native.Nat.{ℕ, _<_}
 use lib.Dec.{T}
 use lib.Ieee.{Float}
-use Rattle.rounding.specs.Whole.{isWhole, wholeOf}
+use Rattle.law_rounding.specs.Whole.{isWhole, wholeOf}
 use Rattle.rules.specs.declared.BoundaryState.{BoundaryState}
 use Rattle.rules.specs.declared.BoundaryState.the-variants.{None, Given}
 use Rattle.rules.specs.declared.MasterAnswer.the-variants.{Yes, Refused}

@@ -8,7 +8,7 @@ use lib.Dec.{T}
 use lib.IntN.{pos, _*ℤ_}
 use lib.ListN.{length}
 use lib.Ieee.{Float}
-use Rattle.rounding.specs.Whole.{isWhole, wholeOf}
+use Rattle.law_rounding.specs.Whole.{isWhole, wholeOf}
 use Rattle.rules.specs.Floats.{_!_, +0, +1}
 use Rattle.rules.specs.Lists.{all}
 use Rattle.rules.specs.Tables.{mOf}

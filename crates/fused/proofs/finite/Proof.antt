@@ -1,5 +1,5 @@
 -- Assumes nothing.
-use Rattle.rounding.proofs.Values.{finite-test}
+use Rattle.law_rounding.proofs.Values.{finite-test}
 use Rattle.fused.proofs.finite.Statement.{statement}
 use Rattle.fused.proofs.finite.Tie as tie
 

@@ -12,12 +12,12 @@ use borrow.Author.Needs.{needs}
 use Rattle.rules.specs.declared.MasterAnswer.the-variants.{Refused}
 use Rattle.rules.specs.Lists.{all, every}
 use Rattle.rules.specs.Master.{within, meetsStart, masterSays}
-use Rattle.rounding.proofs.Sums.{and-true}
+use Rattle.law_rounding.proofs.Sums.{and-true}
 use Rattle.rules.proofs.Lists.{and-assoc, every-more}
-use Rattle.equations.specs.Segment.{segmentMeets}
+use Rattle.master_equations.specs.Segment.{segmentMeets}
 use Rattle.master.specs.Pass.{meetsUpTo, passSays}
 use Rattle.master.proofs.Parts.{left-next, inside, none-left, segment-shaped}
-use Rattle.equations.proofs.Says.{segment-out, was-out, was-within, was-good}
+use Rattle.master_equations.proofs.Says.{segment-out, was-out, was-within, was-good}
 use Rattle.master.proofs.check_segments.Statement.{statement}
 use Rattle.master.proofs.check_segments.Tie as tie
 

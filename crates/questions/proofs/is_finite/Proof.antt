@@ -1,5 +1,5 @@
 -- x − x is 0 exactly where x is finite. Assumes nothing.
-use Rattle.rounding.proofs.Values.{finite-test}
+use Rattle.law_rounding.proofs.Values.{finite-test}
 use Rattle.questions.proofs.is_finite.Statement.{statement}
 use Rattle.questions.proofs.is_finite.Tie as tie
 

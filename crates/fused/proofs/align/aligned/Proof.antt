@@ -7,7 +7,7 @@ use lib.Ieee.{binary64}
 use lib.Ieee as Ieee
 use lib.Pow.{pow-pos}
 use borrow.Author.Needs.{needs}
-use Rattle.rounding.proofs.Sticky.{sticky-le}
+use Rattle.law_rounding.proofs.Sticky.{sticky-le}
 use Rattle.fused.proofs.Cases.{Rounds, signs-like, signs-unlike, like, more, fewer, none, high-room, some, was-less, was-not, sum-pos, difference-pos, zero-is}
 use Rattle.fused.proofs.align.aligned.Statement.{statement}
 use Rattle.fused.proofs.align.aligned.Tie as tie

@@ -6,7 +6,7 @@ use native.Mathlib.Nat.{le-of-lt}
 use lib.Ieee.{binary64}
 use lib.Ieee as Ieee
 use borrow.Author.Needs.{needs}
-use Rattle.rounding.proofs.Sums.{sum-swap}
+use Rattle.law_rounding.proofs.Sums.{sum-swap}
 use Rattle.fused.proofs.align.rounded_sum.Statement.{statement}
 use Rattle.fused.proofs.align.rounded_sum.Tie as tie
 

@@ -5,8 +5,8 @@ use native.Mathlib.Nat.{lt-of-le-of-lt, lt-of-lt-of-le, le-of-suc-le-suc}
 use lib.Dec.{lit≤}
 use lib.Pow.{pow-pos}
 use borrow.Author.Needs.{needs}
-use Rattle.rounding.specs.Sticky.{Sticky}
-use Rattle.rounding.proofs.Sticky.{sticky-le}
+use Rattle.law_rounding.specs.Sticky.{Sticky}
+use Rattle.law_rounding.proofs.Sticky.{sticky-le}
 use Rattle.fused.proofs.Carry.{high-lt}
 use Rattle.fused.proofs.Window.{product-lt, addend-lt, biased-lt, bias-value}
 use Rattle.fused.proofs.near.biased_sum.Statement.{statement}

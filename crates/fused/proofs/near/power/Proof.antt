@@ -7,7 +7,7 @@ use lib.Dec.{T}
 use lib.Ieee.{binary64, ofBits, nanBits}
 use lib.Ieee.Exact.{HasValue}
 use borrow.Author.Needs.{needs}
-use Rattle.rounding.proofs.Pattern.{no-nan}
+use Rattle.law_rounding.proofs.Pattern.{no-nan}
 use Rattle.fused.proofs.Convert.{power-negative, power-positive}
 use Rattle.fused.proofs.near.power.Statement.{statement}
 use Rattle.fused.proofs.near.power.Tie as tie

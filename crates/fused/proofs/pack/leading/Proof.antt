@@ -7,7 +7,7 @@ use native.Mathlib.Omega.{arith}
 use lib.Count.{leadingZeros}
 use borrow.Author.Needs.{needs}
 use mir.Facts.{fits-bits}
-use Rattle.rounding.proofs.Sticky.{sticky-again}
+use Rattle.law_rounding.proofs.Sticky.{sticky-again}
 use Rattle.fused.proofs.Round.{zeros-lt, normalized, word-lt, leading-sticky, leading-ge, leading-round}
 use Rattle.fused.proofs.pack.leading.Statement.{statement}
 use Rattle.fused.proofs.pack.leading.Tie as tie

@@ -8,7 +8,7 @@ use lib.Dec.{T, lit≤}
 use lib.Ieee.{binary64, hid, ones, top, ofBits, nanBits}
 use lib.Ieee.Nearest.{closest}
 use borrow.Author.Needs.{needs}
-use Rattle.rounding.proofs.Pattern.{no-nan}
+use Rattle.law_rounding.proofs.Pattern.{no-nan}
 use Rattle.fused.proofs.Round.{Patterned, nearest-lt}
 use Rattle.fused.proofs.pack.pattern.Statement.{statement}
 use Rattle.fused.proofs.pack.pattern.Tie as tie

@@ -5,7 +5,7 @@ use Prim.Native.Nat.{ℕ, _+_, _*_, _^_}
 use native.Mathlib.Nat.{mul-one, zero-add, le-of-lt}
 use borrow.Author.Needs.{needs}
 use mir.Facts.{fits-bits}
-use Rattle.rounding.specs.Sticky.{Sticky}
+use Rattle.law_rounding.specs.Sticky.{Sticky}
 use Rattle.fused.proofs.Shift.{back-le, moved-lt, words-shifted, high-shifted}
 use Rattle.fused.proofs.words.shifted.Statement.{statement}
 use Rattle.fused.proofs.words.shifted.Tie as tie

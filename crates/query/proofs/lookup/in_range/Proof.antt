@@ -8,7 +8,7 @@ use Rattle.rules.specs.declared.PathParam.{PathParam}
 use Rattle.rules.specs.declared.OutOfRangeMode.{OutOfRangeMode}
 use Rattle.rules.specs.declared.OutOfRangeMode.the-variants.{Error}
 use Rattle.rules.specs.Query.{inRange}
-use Rattle.rounding.proofs.NotNan.{no-more-than-nan}
+use Rattle.law_rounding.proofs.NotNan.{no-more-than-nan}
 use Rattle.query.proofs.lookup.in_range.Statement.{statement}
 use Rattle.query.proofs.lookup.in_range.Tie as tie
 

@@ -1,0 +1,65 @@
+-- `build_block::products::copy` meets its contract. The loop's invariant: the second list has the first one's cells below q, and its own from q on. Assumes nothing.
+use mathlib.Core.Path.{refl, _∙_}
+use Prim.Native.Nat.{_-_}
+use native.Mathlib.Omega.{arith}
+use borrow.Author.Needs.{needs}
+use lib.ListN.{length}
+use Rattle.rules.specs.Floats.{_!_, +0}
+use Rattle.rules.proofs.Filling.{listed-of}
+use Rattle.rules.proofs.Cells.{read}
+use Rattle.rules.proofs.Fills.{Filled, none, kept, step, whole}
+use Rattle.build_block.proofs.products.copy.Statement.{statement}
+use Rattle.build_block.proofs.products.copy.Tie as tie
+
+abbrev Inv-loop : tie.InvT-loop
+Inv-loop from to₀ q₀ to q = Filled q (λ j. from ! j) to₀ to
+
+abbrev μ-loop : tie.MeasureT-loop
+μ-loop from to₀ q₀ to q = length from - q
+
+loop-holds : tie.Need-loop-holds Inv-loop μ-loop
+loop-holds c = none _ _
+
+mul-to : tie.Need-mul-to Inv-loop μ-loop
+mul-to c = search needs
+
+shared-slice-read-to : tie.Need-shared-slice-read-to Inv-loop μ-loop
+shared-slice-read-to c = search needs
+
+mul-to-2 : tie.Need-mul-to-2 Inv-loop μ-loop
+mul-to-2 c = search needs
+
+slice-write-to : tie.Need-slice-write-to Inv-loop μ-loop
+slice-write-to c = omega (arith, kept (c .before .before .loop .inv))
+
+add-q : tie.Need-add-q Inv-loop μ-loop
+add-q c = search needs
+
+loop-less : tie.Need-loop-less Inv-loop μ-loop
+loop-less c = search needs
+
+loop-again : tie.Need-loop-again Inv-loop μ-loop
+loop-again c = step (c .before .before .loop .inv) (read (c .before .before .before .args .from .now) (c .before .before .loop .q) (omega arith)) (omega arith)
+
+same-length : tie.Need-same-length Inv-loop μ-loop
+same-length c = kept (c .before .loop .inv)
+
+returns : tie.Need-returns Inv-loop μ-loop
+returns c = whole (c .before .loop .inv) (c .before .before .pre) (c .loop-test .left) ∙ listed-of +0 _ (c .before .before .args .from .now) refl
+
+pub copy-spec : {M : Type 1} → statement M
+copy-spec =
+    tie.close
+    (tie.spec
+    Inv-loop
+    μ-loop
+    loop-holds
+    mul-to
+    shared-slice-read-to
+    mul-to-2
+    slice-write-to
+    add-q
+    loop-less
+    loop-again
+    same-length
+    returns)

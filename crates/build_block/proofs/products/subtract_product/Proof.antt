@@ -1,0 +1,78 @@
+-- `build_block::products::subtract_product` subtracts the product. The loop's invariant: v has the differences below i, and its own cells from i on.
+-- Assumes nothing.
+use Prim.Native.Nat.{_-_}
+use native.Mathlib.Omega.{arith}
+use borrow.Author.Needs.{needs}
+use Rattle.rules.specs.Floats.{_⊖_, _!_}
+use Rattle.rules.specs.Solve.{times, minus}
+use Rattle.build_block.specs.Kept.{transposed}
+use Rattle.rules.proofs.Fills.{Filled, none, kept, step, left, whole}
+use Rattle.build_block.proofs.Transposed.{times-at}
+use Rattle.build_block.proofs.products.subtract_product.Statement.{statement}
+use Rattle.build_block.proofs.products.subtract_product.Tie as tie
+
+abbrev Inv-loop : tie.InvT-loop
+Inv-loop m a u v₀ i₀ v i = Filled i (λ j. v₀ ! j ⊖ times m (transposed m a) u ! j) v₀ v
+
+abbrev μ-loop : tie.MeasureT-loop
+μ-loop m a u v₀ i₀ v i = m - i
+
+abbrev begun : tie.At-loop Inv-loop μ-loop → tie.Start Inv-loop μ-loop
+begun c = c .before .before .before .before
+
+loop-holds : tie.Need-loop-holds Inv-loop μ-loop
+loop-holds c = none _ _
+
+mul-v : tie.Need-mul-v Inv-loop μ-loop
+mul-v c = search needs
+
+slice-read-v : tie.Need-slice-read-v Inv-loop μ-loop
+slice-read-v c = omega (arith, kept (c .before .before .loop .inv))
+
+dot-requires : tie.Need-dot-requires Inv-loop μ-loop
+dot-requires c κs = search needs
+
+mul-v-2 : tie.Need-mul-v-2 Inv-loop μ-loop
+mul-v-2 c = search needs
+
+slice-write-v : tie.Need-slice-write-v Inv-loop μ-loop
+slice-write-v c = omega (arith, kept (c .before .before .before .loop .inv))
+
+add-i : tie.Need-add-i Inv-loop μ-loop
+add-i c = search needs
+
+loop-less : tie.Need-loop-less Inv-loop μ-loop
+loop-less c = search needs
+
+loop-again : tie.Need-loop-again Inv-loop μ-loop
+loop-again c =
+    let at-loop = c .before .before .before in
+    let i = at-loop .loop .i in
+    let inv = at-loop .loop .inv in
+    let args = begun at-loop .args in
+    step inv (rw (left inv i (omega arith) (omega arith), c .dot .ensures, times-at (args .m) (args .a .now) (args .u .now) i (omega arith))) (omega arith)
+
+same-length : tie.Need-same-length Inv-loop μ-loop
+same-length c = kept (c .before .loop .inv)
+
+returns : tie.Need-returns Inv-loop μ-loop
+unfolding minus
+returns c = whole (c .before .loop .inv) (begun (c .before) .pre .3) (c .loop-test .left)
+
+pub subtract-product-spec : {M : Type 1} → statement M
+subtract-product-spec =
+    tie.close
+    (tie.spec
+    Inv-loop
+    μ-loop
+    loop-holds
+    mul-v
+    slice-read-v
+    dot-requires
+    mul-v-2
+    slice-write-v
+    add-i
+    loop-less
+    loop-again
+    same-length
+    returns)

@@ -1,0 +1,184 @@
+-- `build_nodes::factor_nodes` goes from node to node. The loop's invariant: the first i nodes are done, each list has their parts and its own cells from there on,
+-- and `ok` says whether no pivot of theirs is zero. Assumes nothing.
+use mathlib.Core.Path.{_≡_, refl, sym, _∙_}
+use mathlib.Core.Bool.{true, false}
+use mathlib.Core.Logic.{⊎-elim}
+use Prim.Native.Nat.{_+_, _*_, _-_, _≤_}
+use native.Mathlib.Omega.{arith}
+use borrow.Author.Needs.{needs}
+use Rattle.rules.specs.Lists.{every}
+use Rattle.rules.specs.Solve.{nonzeroPivots, nodeFactors, solvedC}
+use Rattle.build_block.specs.Kept.{transposed}
+use Rattle.build_nodes.specs.Kept.{nodeEntries, nodeRows, nodeSolved}
+use Rattle.rules.proofs.Lists.{part-inside, every-more}
+use Rattle.rules.proofs.Cells.{next-part}
+use Rattle.build_nodes.proofs.Nodes.{length-entries, length-node-rows, length-solved}
+use Rattle.rules.proofs.Parts.{Parted, none, kept, step, own, later}
+use Rattle.build_nodes.proofs.factor_nodes.Statement.{statement}
+use Rattle.build_nodes.proofs.factor_nodes.Tie as tie
+
+abbrev Inv-loop : tie.InvT-loop
+Inv-loop m n a b c entries₀ rows₀ solved₀ ok₀ i₀ entries rows solved ok i =
+    (i ≤ n)
+    × (ok ≡ every i (λ j. nonzeroPivots m (nodeFactors m j)))
+    × Parted (m * m) i (λ j. nodeFactors m j .entries) entries₀ entries
+    × Parted m i (λ j. nodeFactors m j .rows) rows₀ rows
+    × Parted (m * m) i (λ j. transposed m (solvedC m j)) solved₀ solved
+
+abbrev μ-loop : tie.MeasureT-loop
+μ-loop m n a b c entries₀ rows₀ solved₀ ok₀ i₀ entries rows solved ok i = n - i
+
+abbrev begun : tie.At-loop Inv-loop μ-loop → tie.Start Inv-loop μ-loop
+begun c = c .before .before .before .before .before .before .before
+
+-- the parts that a turn is about are inside
+inside : (c : tie.In-loop Inv-loop μ-loop)
+    → let args = begun (c .before) .args in
+    let m = args .m in
+    let i = c .before .loop .i in
+    (i * (m * m) + m * m ≤ args .n * (m * m)) × (i * m + m ≤ args .n * m)
+inside c =
+    let m = begun (c .before) .args .m in
+    (part-inside (m * m) (c .loop-test .taken), part-inside m (c .loop-test .taken))
+
+loop-holds : tie.Need-loop-holds Inv-loop μ-loop
+unfolding every
+loop-holds c =
+    let start = c .before .before .before .before .before .before in
+    let m = start .args .m in
+    (omega arith, refl, none _ _ _ (length-entries m (start .pre .0 .b-length)), none _ _ _ (length-node-rows m), none _ _ _ (length-solved m))
+
+mul-at : tie.Need-mul-at Inv-loop μ-loop
+mul-at c = omega (arith, inside c .0)
+
+mul-at-2 : tie.Need-mul-at-2 Inv-loop μ-loop
+mul-at-2 c = omega (arith, inside c .0)
+
+mul-row : tie.Need-mul-row Inv-loop μ-loop
+mul-row c = omega (arith, inside c .1)
+
+mul-factor-node : tie.Need-mul-factor-node Inv-loop μ-loop
+mul-factor-node c = omega (arith, inside c .0)
+
+add-factor-node : tie.Need-add-factor-node Inv-loop μ-loop
+add-factor-node c = omega (arith, inside c .0)
+
+mul-factor-node-2 : tie.Need-mul-factor-node-2 Inv-loop μ-loop
+mul-factor-node-2 c = omega (arith, inside c .0)
+
+sub-factor-node : tie.Need-sub-factor-node Inv-loop μ-loop
+sub-factor-node c = search needs
+
+part-factor-node-start : tie.Need-part-factor-node-start Inv-loop μ-loop
+part-factor-node-start c = search needs
+
+part-factor-node-end : tie.Need-part-factor-node-end Inv-loop μ-loop
+part-factor-node-end c = omega (arith, inside c .0, kept (c .before .loop .inv .2))
+
+add-factor-node-2 : tie.Need-add-factor-node-2 Inv-loop μ-loop
+add-factor-node-2 c = omega (arith, inside (c .before) .1)
+
+mul-factor-node-3 : tie.Need-mul-factor-node-3 Inv-loop μ-loop
+mul-factor-node-3 c = omega (arith, inside (c .before) .1)
+
+sub-factor-node-2 : tie.Need-sub-factor-node-2 Inv-loop μ-loop
+sub-factor-node-2 c = search needs
+
+part-factor-node-start-2 : tie.Need-part-factor-node-start-2 Inv-loop μ-loop
+part-factor-node-start-2 c = search needs
+
+part-factor-node-end-2 : tie.Need-part-factor-node-end-2 Inv-loop μ-loop
+part-factor-node-end-2 c = omega (arith, inside (c .before) .1, kept (c .before .before .loop .inv .3))
+
+factor-node-requires : tie.Need-factor-node-requires Inv-loop μ-loop
+unfolding nodeSolved
+factor-node-requires c κs =
+    let turn = c .before .before .before in
+    let at-loop = turn .before in
+    let start = begun at-loop in
+    let m = start .args .m in
+    let solved = at-loop .loop .inv .4 in (
+      start .pre .0,
+      omega (arith, c .before .before .factor-node-arg .given .2),
+      omega (arith, c .before .factor-node-arg2 .given .2),
+      omega (arith, inside turn .0, next-part (m * m) (at-loop .loop .i), kept solved),
+      (omega (arith, solved .inside, kept solved), own solved),
+    )
+
+add-i : tie.Need-add-i Inv-loop μ-loop
+add-i c = search needs
+
+loop-less : tie.Need-loop-less Inv-loop μ-loop
+loop-less c = search needs
+
+loop-again : tie.Need-loop-again Inv-loop μ-loop
+unfolding nodeSolved
+loop-again c =
+    let done = c .before .before .before .before .before .before .before in
+    let turn = done .before .before .before .before in
+    let at-loop = turn .before in
+    let inv = at-loop .loop .inv in
+    let start = begun at-loop in
+    let m = start .args .m in
+    let i = at-loop .loop .i in
+    let made = done .factor-node .ensures in
+    let pivots = every-more (λ j. nonzeroPivots m (nodeFactors m j)) i in (
+      omega arith,
+      ⊎-elim
+          (λ w. rw (w .1, made .0) (sym (pivots true (sym (inv .1) ∙ w .0 .taken))))
+          (λ w. rw (w .1, w .0 .left) (sym (pivots false (sym (inv .1) ∙ w .0 .left))))
+          (c .if1 .came),
+      step (inv .2) (made .1) (omega (arith, inside turn .0, next-part (m * m) i)),
+      step (inv .3) (made .2) (omega (arith, inside turn .1, next-part m i)),
+      later (inv .4) (made .3) (omega (arith, inside turn .0, next-part (m * m) i)),
+    )
+
+same-length : tie.Need-same-length Inv-loop μ-loop
+same-length c = kept (c .before .loop .inv .2)
+
+same-length-2 : tie.Need-same-length-2 Inv-loop μ-loop
+same-length-2 c = kept (c .before .loop .inv .3)
+
+same-length-3 : tie.Need-same-length-3 Inv-loop μ-loop
+same-length-3 c = kept (c .before .loop .inv .4)
+
+returns : tie.Need-returns Inv-loop μ-loop
+unfolding nodeEntries nodeRows nodeSolved
+returns c =
+    let inv = c .before .loop .inv in
+    let all : c .before .loop .i ≡ begun (c .before) .args .n = omega arith in (
+      rw all at (inv .1),
+      rw all at (inv .2 .is),
+      rw all at (inv .3 .is),
+      rw all at (inv .4 .is),
+    )
+
+pub factor-nodes-spec : {M : Type 1} → statement M
+factor-nodes-spec =
+    tie.close
+    (tie.spec
+    Inv-loop
+    μ-loop
+    loop-holds
+    mul-at
+    mul-at-2
+    mul-row
+    mul-factor-node
+    add-factor-node
+    mul-factor-node-2
+    sub-factor-node
+    part-factor-node-start
+    part-factor-node-end
+    add-factor-node-2
+    mul-factor-node-3
+    sub-factor-node-2
+    part-factor-node-start-2
+    part-factor-node-end-2
+    factor-node-requires
+    add-i
+    loop-less
+    loop-again
+    same-length
+    same-length-2
+    same-length-3
+    returns)

@@ -1,0 +1,33 @@
+-- How the code keeps the matrices of a build. Assumes nothing.
+use mathlib.Core.Path.{_≡_}
+use Prim.Native.Nat.{ℕ, _*_, _≤_}
+use mathlib.Core.List.{List}
+use lib.ListN.{length}
+use lib.Ieee.{Float}
+use Rattle.rules.specs.Lists.{joined}
+use Rattle.rules.specs.Tables.{A, B, C}
+use Rattle.rules.specs.Solve.{nodeFactors, solvedC}
+use Rattle.build_block.specs.Kept.{transposed}
+
+-- the tables of an order: A and C by columns, B by rows
+pub record Tables (m : ℕ) (a b c : List Float) : Type 0 where
+  pub a-is : a ≡ transposed m (A m)
+  pub b-is : b ≡ B m
+  pub c-is : c ≡ transposed m (C m)
+  pub b-length : length (B m) ≡ m * m
+
+-- of the first n inner nodes, one after the other: the factored matrices, their rows, and solved C by columns
+unfoldable pub nodeEntries : ℕ → ℕ → List Float
+nodeEntries m n = joined n (λ i. nodeFactors m i .entries)
+
+unfoldable pub nodeRows : ℕ → ℕ → List ℕ
+nodeRows m n = joined n (λ i. nodeFactors m i .rows)
+
+unfoldable pub nodeSolved : ℕ → ℕ → List Float
+nodeSolved m n = joined n (λ i. transposed m (solvedC m i))
+
+-- room for n nodes
+pub record Room (m n : ℕ) (entries : List Float) (rows : List ℕ) (solved : List Float) : Type 0 where
+  pub for-entries : n * (m * m) ≤ length entries
+  pub for-rows : n * m ≤ length rows
+  pub for-solved : n * (m * m) ≤ length solved

@@ -1,0 +1,108 @@
+// The matrices of a build's inner nodes, which its order and the node's place alone decide, factored
+// and solved with by crates/build_block. What each function does is said by the definitions of
+// crates/rules/specs/Solve.antt, for every m.
+ghost use mathlib.Core.Path.{_≡_};
+ghost use Prim.Native.Nat.{_+_, _*_, _≤_, _<_};
+ghost use mathlib.Core.List.{_++_};
+ghost use lib.ListN.{length, drop};
+ghost use Rattle.rules.specs.Lists.{listed, every};
+ghost use Rattle.rules.specs.Tables.{C};
+ghost use Rattle.rules.specs.Solve.{matrix, nodeMatrix, nodeFactors, nonzeroPivots};
+ghost use Rattle.build_block.specs.Kept.{transposed};
+ghost use Rattle.build_nodes.specs.Kept.{Tables, Room, nodeEntries, nodeRows, nodeSolved};
+ghost use Rattle.build_nodes.specs.Steps.{nextEntry, SolvedTo};
+
+// Row r of the matrix of an inner node past the first.
+fn node_row(m: usize, r: usize, a: &[f64], b: &[f64], previous: &[f64], out: &mut [f64])
+    requires { ⌜ (r < m) × (length (now a) ≡ m * m) × (length (now b) ≡ m * m) × (length (now previous) ≡ m * m) × (length (now out) ≡ m) ⌝ }
+    ensures { λ x. ⌜ now (out .exit) ≡ listed m (nextEntry m (transposed m (now (a .entry))) (now (b .entry)) (transposed m (now (previous .entry))) r) ⌝ }
+{
+    let mut c = 0;
+    while c < m {
+        let at = c * m;
+        out[c] = b[r * m + c] - build_block::products::dot(m, a, r, m, &previous[at..at + m]);
+        c += 1;
+    }
+}
+
+// The matrix of an inner node past the first.
+fn node_matrix(m: usize, a: &[f64], b: &[f64], previous: &[f64], out: &mut [f64])
+    requires { ⌜ (length (now a) ≡ m * m) × (length (now b) ≡ m * m) × (length (now previous) ≡ m * m) × (length (now out) ≡ m * m) ⌝ }
+    ensures { λ x. ⌜ now (out .exit) ≡ matrix m m (nextEntry m (transposed m (now (a .entry))) (now (b .entry)) (transposed m (now (previous .entry)))) ⌝ }
+{
+    let mut r = 0;
+    while r < m {
+        let at = r * m;
+        node_row(m, r, a, b, previous, &mut out[at..at + m]);
+        r += 1;
+    }
+}
+
+// The matrix of inner node i. Past the first it takes solved C of the node before.
+fn node_entries(m: usize, i: usize, a: &[f64], b: &[f64], solved: &[f64], out: &mut [f64])
+    requires { ⌜ Tables m (now a) (now b) (transposed m (C m)) × SolvedTo m i (now solved) × (length (now out) ≡ m * m) ⌝ }
+    ensures { λ x. ⌜ now (out .exit) ≡ nodeMatrix m i ⌝ }
+{
+    if i == 0 {
+        build_block::products::copy(b, out);
+        return;
+    }
+    let before = (i - 1) * (m * m);
+    node_matrix(m, a, b, &solved[before..before + m * m], out);
+}
+
+// Inner node i is factored, and C is solved with it. Whether no pivot is zero.
+fn factor_node(
+    m: usize,
+    i: usize,
+    a: &[f64],
+    b: &[f64],
+    c: &[f64],
+    entries: &mut [f64],
+    rows: &mut [usize],
+    solved: &mut [f64],
+) -> bool
+    requires { ⌜ Tables m (now a) (now b) (now c) × (length (now entries) ≡ m * m) × (length (now rows) ≡ m) × ((i + 1) * (m * m) ≤ length (now solved)) × SolvedTo m i (now solved) ⌝ }
+    ensures { λ r. ⌜ (r ≡ nonzeroPivots m (nodeFactors m i)) × (now (entries .exit) ≡ nodeFactors m i .entries) × (now (rows .exit) ≡ nodeFactors m i .rows) × (now (solved .exit) ≡ nodeSolved m (i + 1) ++ drop ((i + 1) * (m * m)) (now (solved .entry))) ⌝ }
+{
+    node_entries(m, i, a, b, solved, entries);
+    let ok = build_factoring::factor(m, entries, rows);
+    let at = i * (m * m);
+    build_block::solve::solve_matrix(m, entries, rows, c, &mut solved[at..at + m * m]);
+    ok
+}
+
+// The inner nodes 0 to n − 1, one after the other. Whether no pivot of any is zero.
+pub fn factor_nodes(
+    m: usize,
+    n: usize,
+    a: &[f64],
+    b: &[f64],
+    c: &[f64],
+    entries: &mut [f64],
+    rows: &mut [usize],
+    solved: &mut [f64],
+) -> bool
+    requires { ⌜ Tables m (now a) (now b) (now c) × Room m n (now entries) (now rows) (now solved) ⌝ }
+    ensures { λ r. ⌜ (r ≡ every n (λ i. nonzeroPivots m (nodeFactors m i))) × (now (entries .exit) ≡ nodeEntries m n ++ drop (n * (m * m)) (now (entries .entry))) × (now (rows .exit) ≡ nodeRows m n ++ drop (n * m) (now (rows .entry))) × (now (solved .exit) ≡ nodeSolved m n ++ drop (n * (m * m)) (now (solved .entry))) ⌝ }
+{
+    let mut ok = true;
+    let mut i = 0;
+    while i < n {
+        let at = i * (m * m);
+        let row = i * m;
+        let good = factor_node(
+            m,
+            i,
+            a,
+            b,
+            c,
+            &mut entries[at..at + m * m],
+            &mut rows[row..row + m],
+            solved,
+        );
+        ok = ok && good;
+        i += 1;
+    }
+    ok
+}

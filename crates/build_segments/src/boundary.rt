@@ -1,0 +1,91 @@
+// The numbers of the first and the last node, from the states that a build is given.
+ghost use mathlib.Core.Path.{_≡_};
+ghost use Prim.Native.Nat.{_+_, _*_, _<_};
+ghost use mathlib.Core.List.{_++_};
+ghost use lib.ListN.{length};
+ghost use Rattle.rules.specs.Lists.{listed};
+ghost use Rattle.rules.specs.Build.{divided, boundaryNumber};
+ghost use Rattle.build_segments.specs.Kept.{HasNumbers};
+use rules::BoundaryState;
+
+// x divided so many times, one division after another.
+fn divided(times: usize, x: f64, by: f64) -> f64
+    ensures { λ r. ⌜ r ≡ divided times x by ⌝ }
+{
+    let mut y = x;
+    let mut k = 0;
+    while k < times {
+        y = y / by;
+        k += 1;
+    }
+    y
+}
+
+// Column r of an axis of a state: zero where the state is none, and in segment units where it is marked
+// per unit of s.
+fn boundary_number(
+    axes: usize,
+    inv_ds: f64,
+    state: BoundaryState,
+    numbers: &[f64],
+    axis: usize,
+    r: usize,
+) -> f64
+    requires { ⌜ (axis < axes) × HasNumbers axes (r + 1) state (now numbers) ⌝ }
+    ensures { λ x. ⌜ x ≡ boundaryNumber axes «inv_ds» state (now (numbers .entry)) axis r ⌝ }
+{
+    match state {
+        BoundaryState::None => 0.0,
+        BoundaryState::Given {
+            rows: _,
+            columns: _,
+            per_unit_of_s,
+        } => {
+            let x = numbers[r * axes + axis];
+            if per_unit_of_s {
+                divided(r + 1, x, inv_ds)
+            } else {
+                x
+            }
+        }
+    }
+}
+
+// The m numbers of an axis of a state.
+fn boundary_numbers(
+    m: usize,
+    axes: usize,
+    inv_ds: f64,
+    state: BoundaryState,
+    numbers: &[f64],
+    axis: usize,
+    out: &mut [f64],
+)
+    requires { ⌜ (axis < axes) × HasNumbers axes m state (now numbers) × (length (now out) ≡ m) ⌝ }
+    ensures { λ x. ⌜ now (out .exit) ≡ listed m (boundaryNumber axes «inv_ds» state (now (numbers .entry)) axis) ⌝ }
+{
+    let mut r = 0;
+    while r < m {
+        out[r] = boundary_number(axes, inv_ds, state, numbers, axis, r);
+        r += 1;
+    }
+}
+
+// The 2m numbers of an axis's first node and of its last, one behind the other.
+pub fn both_ends(
+    m: usize,
+    axes: usize,
+    inv_ds: f64,
+    start_state: BoundaryState,
+    start: &[f64],
+    end_state: BoundaryState,
+    end: &[f64],
+    axis: usize,
+    ends: &mut [f64],
+)
+    requires { ⌜ (axis < axes) × HasNumbers axes m «start_state» (now start) × HasNumbers axes m «end_state» (now end) × (length (now ends) ≡ m + m) ⌝ }
+    ensures { λ x. ⌜ now (ends .exit) ≡ listed m (boundaryNumber axes «inv_ds» «start_state» (now (start .entry)) axis) ++ listed m (boundaryNumber axes «inv_ds» «end_state» (now (end .entry)) axis) ⌝ }
+{
+    boundary_numbers(m, axes, inv_ds, start_state, start, axis, &mut ends[0..m]);
+    boundary_numbers(m, axes, inv_ds, end_state, end, axis, &mut ends[m..m + m]);
+}

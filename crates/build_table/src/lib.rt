@@ -1,0 +1,64 @@
+// The table of a build: the lists per node, which factoring and filling (crates/build_axes) are lent.
+ghost use mathlib.Core.Path.{_≡_};
+ghost use mathlib.Core.Bool.{cond};
+ghost use Rattle.build_axes.specs.Axes.{Fillable, allAxes, everyNode};
+use build_axes::Plan;
+
+// "Lists per node: fixed arrays for 255 nodes." A curve with fewer nodes has shorter ones, since an array is set to
+// zero before it is used; two points have no inner node.
+pub fn fill(plan: Plan, waypoints: &[f64], start: &[f64], end: &[f64], coeffs: &mut [f64]) -> bool
+    requires { ⌜ Fillable plan (now waypoints) (now start) (now end) (now coeffs) ⌝ }
+    ensures { λ ok. ⌜ (ok ≡ everyNode (plan .m) (plan .n))
+        × (now (coeffs .exit) ≡ cond ok (allAxes plan (now (waypoints .entry)) (now (start .entry)) (now (end .entry))) (now (coeffs .entry))) ⌝ }
+{
+    let n = plan.n;
+    if n == 0 {
+        let mut entries = [0.0; 1];
+        let mut rows = [0; 1];
+        let mut solved_c = [0.0; 1];
+        let mut solved = [0.0; 1];
+        return build_axes::solve_general_thomas(
+            plan,
+            waypoints,
+            start,
+            end,
+            &mut entries,
+            &mut rows,
+            &mut solved_c,
+            &mut solved,
+            coeffs,
+        );
+    }
+    if n <= 30 {
+        let mut entries = [0.0; 270];
+        let mut rows = [0; 90];
+        let mut solved_c = [0.0; 270];
+        let mut solved = [0.0; 90];
+        return build_axes::solve_general_thomas(
+            plan,
+            waypoints,
+            start,
+            end,
+            &mut entries,
+            &mut rows,
+            &mut solved_c,
+            &mut solved,
+            coeffs,
+        );
+    }
+    let mut entries = [0.0; 2295];
+    let mut rows = [0; 765];
+    let mut solved_c = [0.0; 2295];
+    let mut solved = [0.0; 765];
+    build_axes::solve_general_thomas(
+        plan,
+        waypoints,
+        start,
+        end,
+        &mut entries,
+        &mut rows,
+        &mut solved_c,
+        &mut solved,
+        coeffs,
+    )
+}

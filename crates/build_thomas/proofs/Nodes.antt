@@ -1,0 +1,67 @@
+-- The numbers of the nodes of a solved list are the definition's, so the segments that are made of them are the axis's. A point of an axis is a
+-- waypoint. Assumes nothing.
+use mathlib.Core.Path.{_≡_, refl, sym, ap, ap₂, _∙_}
+use mathlib.Core.List.{List, _++_}
+use mathlib.Core.Logic.{_⊎_, inl, inr}
+use Prim.Native.Nat.{ℕ, zero, suc, _+_, _-_, _*_, _<_, _≤_}
+use native.Mathlib.Omega.{arith}
+use borrow.Author.Tests.{lt-ltb, le-ltb}
+use lib.ListN.{length, take, drop}
+use lib.Seq.{drop-at}
+use lib.Ieee.{Float}
+use Rattle.rules.specs.Floats.{_⊖_, _!_, +0}
+use Rattle.rules.specs.Lists.{joined}
+use Rattle.rules.specs.Build.{dy, segmentCoefficients, innerNumbers, nodeNumbers, axisCoefficients}
+use Rattle.rules.proofs.Lists.{length-joined}
+use Rattle.rules.proofs.Filling.{lt-or-le, listed-at, joined-ext, parts-at}
+use Rattle.rules.proofs.Build.{length-inner}
+use Rattle.rules.proofs.Cells.{cell-inside}
+use Rattle.build_segments.specs.Kept.{nodePart}
+use Rattle.build_thomas.specs.Axis.{AxisOf, axisPoints, segmentOf}
+
+-- rest is what the solved list has past the inner nodes' numbers
+module _ (m n : ℕ) (boundary solved w rest : List Float) where
+  abbrev first : List Float
+  first = take m boundary
+
+  abbrev last : List Float
+  last = take m (drop m boundary)
+
+  abbrev inner : ℕ → List Float
+  inner j = innerNumbers m n w first last j (n - suc j)
+
+  pub nodes-are : solved ≡ joined n inner ++ rest → (i : ℕ) → nodePart m n boundary solved i ≡ nodeNumbers m n w first last i
+  unfolding nodePart nodeNumbers
+  nodes-are e zero = refl
+  nodes-are e (suc i) = go (lt-or-le i n)
+    where
+      sized : (j : ℕ) → j < n → length (inner j) ≡ m
+      sized j l = length-inner m n w first last j (n - suc j)
+
+      whole : solved ≡ joined n inner ++ drop (n * m) solved
+      whole =
+          e
+          ∙ ap (λ (xs : List Float). joined n inner ++ xs)
+          (sym (ap (drop (n * m)) e ∙ drop-at (joined n inner) rest (n * m) (length-joined n m inner sized)))
+
+      go : (i < n) ⊎ (n ≤ i) → nodePart m n boundary solved (suc i) ≡ nodeNumbers m n w first last (suc i)
+      go (inl l) = rw (lt-ltb i n l) (ap (λ (xs : List Float). take m (drop (i * m) xs)) whole ∙ parts-at m inner n solved i sized l)
+      go (inr l) = rw (le-ltb i n l)
+
+  pub axis-is : solved ≡ joined n inner ++ rest → joined (n + 1) (segmentOf m n w boundary solved) ≡ axisCoefficients m n w first last
+  unfolding axisCoefficients
+  axis-is e = joined-ext (n + 1) _ _ (λ i h. ap₂ (segmentCoefficients m (w ! i) (dy w i)) (nodes-are e i) (nodes-are e (suc i)))
+
+-- ---- the points of an axis
+
+module _ (points axes : ℕ) (waypoints : List Float) (axis : ℕ) where
+  pub points-at : (p : ℕ) → p < points → axisPoints points axes waypoints axis ! p ≡ waypoints ! (p * axes + axis)
+  unfolding axisPoints
+  points-at p h = listed-at +0 points _ p h
+
+  pub points-dy : (i : ℕ) → suc i < points → dy (axisPoints points axes waypoints axis) i ≡ waypoints ! (suc i * axes + axis) ⊖ waypoints ! (i * axes + axis)
+  unfolding dy
+  points-dy i h = ap₂ _⊖_ (points-at (suc i) h) (points-at i (omega arith))
+
+pub point-inside : {points axes axis : ℕ} {waypoints : List Float} → AxisOf points axes axis waypoints → (p : ℕ) → p < points → p * axes + axis < length waypoints
+point-inside {points} {axes} h p l = rw (h .waypoints-length) (cell-inside axes l (h .axis-below))

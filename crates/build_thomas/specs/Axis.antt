@@ -1,0 +1,60 @@
+-- What the functions of one axis are lent. Assumes nothing.
+use mathlib.Core.Path.{_≡_}
+use Prim.Native.Nat.{ℕ, suc, _+_, _-_, _*_, _<_, _≤_}
+use mathlib.Core.Bool.{cond}
+use mathlib.Core.List.{List, _++_}
+use lib.ListN.{length, take, drop}
+use lib.Dec.{ltb}
+use lib.Ieee.{Float}
+use Rattle.rules.specs.Floats.{_!_}
+use Rattle.rules.specs.Lists.{listed}
+use Rattle.rules.specs.Tables.{A}
+use Rattle.rules.specs.Solve.{times, minus, nodeFactors, solvedC}
+use Rattle.rules.specs.Build.{dy, segmentCoefficients, boundedSide, solvedSide}
+use Rattle.build_block.specs.Kept.{transposed}
+use Rattle.build_segments.specs.Kept.{nodePart}
+
+-- an axis's waypoints, of a list that is column-major, axes by points
+unfoldable pub axisPoints : ℕ → ℕ → List Float → ℕ → List Float
+axisPoints points axes waypoints axis = listed points (λ p. waypoints ! (p * axes + axis))
+
+pub record AxisOf (points axes axis : ℕ) (waypoints : List Float) : Type 0 where
+  pub axis-below : axis < axes
+  pub waypoints-length : length waypoints ≡ points * axes
+
+-- of n inner nodes, one after the other: the factored matrices and their rows
+pub record NodeFactors (m n : ℕ) (entries : List Float) (rows : List ℕ) : Type 0 where
+  pub entries-at : (i : ℕ) → i < n → take (m * m) (drop (i * (m * m)) entries) ≡ nodeFactors m i .entries
+  pub entries-length : n * (m * m) ≤ length entries
+  pub rows-at : (i : ℕ) → i < n → take m (drop (i * m) rows) ≡ nodeFactors m i .rows
+  pub rows-length : n * m ≤ length rows
+
+-- those of one node
+pub record NodeAt (m i : ℕ) (entries : List Float) (rows : List ℕ) : Type 0 where
+  pub entries-is : take (m * m) (drop (i * (m * m)) entries) ≡ nodeFactors m i .entries
+  pub entries-inside : i * (m * m) + m * m ≤ length entries
+  pub rows-is : take m (drop (i * m) rows) ≡ nodeFactors m i .rows
+  pub rows-inside : i * m + m ≤ length rows
+
+-- and solved C by columns
+pub record NodeSolved (m n : ℕ) (solved : List Float) : Type 0 where
+  pub solved-at : (i : ℕ) → i < n → take (m * m) (drop (i * (m * m)) solved) ≡ transposed m (solvedC m i)
+  pub solved-length : n * (m * m) ≤ length solved
+
+-- the i-th m numbers of a list
+abbrev pub part : ℕ → List Float → ℕ → List Float
+part m xs i = take m (drop (i * m) xs)
+
+-- a list with the i-th m numbers replaced, as it comes back where that part was lent
+abbrev pub put : ℕ → ℕ → List Float → List Float → List Float
+put m i ys xs = take (i * m) xs ++ (ys ++ drop (i * m + m - i * m) (drop (i * m) xs))
+
+-- what is solved at an inner node
+abbrev pub fullSide : ℕ → ℕ → List Float → List Float → List Float → ℕ → List Float
+fullSide m n w start end i =
+    let side = boundedSide m n w start end i in
+    cond (ltb 0 i) (minus m side (times m (A m) (solvedSide m n w start end (i - 1)))) side
+
+-- segment i's coefficients, with its nodes' numbers as they are kept
+abbrev pub segmentOf : ℕ → ℕ → List Float → List Float → List Float → ℕ → List Float
+segmentOf m n w boundary solved i = segmentCoefficients m (w ! i) (dy w i) (nodePart m n boundary solved i) (nodePart m n boundary solved (suc i))

