@@ -1,4 +1,4 @@
--- What a build may rely on where the questions about its input say yes: the list of its facts, `fillable`, and the orders of its numbers. And the axes'
+-- What a build may rely on where the questions about its input say yes: how large its numbers are and how long its lists, `planned` and `cells-are`. And the axes'
 -- coefficients, as `fill` leaves them, are the table: `table-is`. Assumes nothing.
 use mathlib.Core.Path.{_≡_, sym, ap, ap₂, _∙_}
 use mathlib.Core.Bool.{_&&_}
@@ -18,10 +18,9 @@ use Rattle.rules.specs.Build.{BuildInput, validAxes, validState, inputQuestions
 use Rattle.rules.proofs.Questions.{answerAt, said-yes}
 use Rattle.rules.proofs.Build.{by-order, coefficient-count}
 use Rattle.rules.proofs.Filling.{joined-ext}
-use Rattle.build_segments.specs.Kept.{HasNumbers}
-use Rattle.build_thomas.specs.Axis.{axisPoints}
-use Rattle.build_axes.specs.declared.Plan.{Plan}
-use Rattle.build_axes.specs.Axes.{allAxes, Fillable}
+use Rattle.build_segments.specs.declared.Plan.{Plan}
+use Rattle.build_segments.specs.Given.{HasNumbers, Planned}
+use Rattle.build_axes.specs.AllAxes.{allAxes}
 
 has-numbers : (axes m : ℕ) (state : BoundaryState) (numbers : List Float) → T (validState axes m state numbers) → HasNumbers axes m state numbers
 unfolding validState
@@ -55,9 +54,9 @@ module _ (b : BuildInput) (before : List Float) (e : firstNo (inputQuestions b (
   unfolding inputQuestions
   points-known = (leb→le 2 _ (answered 1), leb→le _ 257 (answered 2))
 
-  pub fillable : (inv : Float) → Fillable (planOf b inv) (b .waypoints) (b .start) (b .end) before
+  pub planned : (inv : Float) → Planned (planOf b inv) (b .waypoints) (b .start) (b .end)
   unfolding inputQuestions validAxes
-  fillable inv =
+  planned inv =
       let known : (2 ≤ b .points) × (b .points ≤ 257) = points-known in
       record {
         some = order-known .1;
@@ -67,13 +66,17 @@ module _ (b : BuildInput) (before : List Float) (e : firstNo (inputQuestions b (
         waypoints-length = eqb→eq _ _ (answered 4) ∙ mul-comm (b .axes) (b .points) ∙ ap (λ (points : ℕ). points * b .axes) (omega arith);
         start-numbers = has-numbers _ _ _ _ (answered 5);
         end-numbers = has-numbers _ _ _ _ (answered 6);
-        coeffs-length =
-            eqb→eq _ _ (answered 7) ∙ mul-assoc (b .axes) (b .points - 1) (b .config .order + 1)
-            ∙ ap₂ (λ (segments cells : ℕ). b .axes * (segments * cells)) (omega arith) (sym (coefficient-count _ (answered 0)));
       }
 
+  pub cells-are : length before ≡ b .axes * ((b .points - 2 + 1) * (2 * mOf (b .config .order) + 2))
+  unfolding inputQuestions
+  cells-are =
+      let known : (2 ≤ b .points) × (b .points ≤ 257) = points-known in
+      eqb→eq _ _ (answered 7) ∙ mul-assoc (b .axes) (b .points - 1) (b .config .order + 1)
+      ∙ ap₂ (λ (segments cells : ℕ). b .axes * (segments * cells)) (omega arith) (sym (coefficient-count _ (answered 0)))
+
   pub table-is : allAxes (planOf b (acceptedRecord b .«inv_ds»)) (b .waypoints) (b .start) (b .end) ≡ table b
-  unfolding table axisWaypoints axisState axisPoints
+  unfolding table axisWaypoints axisState
   table-is =
       let known : (2 ≤ b .points) × (b .points ≤ 257) = points-known in
       let points-are : b .points - 2 + 2 ≡ b .points = omega arith in

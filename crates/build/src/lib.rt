@@ -1,10 +1,12 @@
-// The entry point of the build: refuse first, then fill. The questions are answered in crates/questions, the table is
+// The entry point of the build: refuse first, then fill. The questions are answered in crates/build_questions, the table is
 // filled by crates/build_table.
 ghost use mathlib.Core.Path.{_≡_};
+ghost use mathlib.Core.List.{List};
+ghost use Prim.Native.Nat.{_≤_};
 ghost use lib.ListN.{length};
-ghost use Rattle.rules.specs.Build.{refusedRecord, buildAnswer, bufferAfter};
-ghost use Rattle.questions.specs.Input.{inputOf};
-use build_axes::Plan;
+ghost use lib.Ieee.{Float};
+ghost use Rattle.rules.specs.Build.{inputOf, acceptedRecord, refusedRecord, buildAnswer, bufferAfter};
+use build_segments::Plan;
 use rules::BuildAnswer;
 use rules::OutOfRangeMode;
 use rules::PathParam;
@@ -29,6 +31,28 @@ fn refused(number: u32) -> BuildAnswer
     }
 }
 
+// "the record: order, segments, axes, s_min, s_max, inv_ds and the mode".
+fn accepted(config: SplineConfig, points: usize, axes: usize) -> PathRecord
+    requires { ⌜ (1 ≤ points) × (points ≤ 257) ⌝ }
+    ensures { λ r. ⌜ ((waypoints start end : List Float)
+        → r ≡ acceptedRecord (inputOf config points axes waypoints start end)) ⌝ }
+{
+    let segments = points - 1;
+    let s_min = config.s_min;
+    let s_max = config.s_max;
+    let mode = config.out_of_range_mode;
+    let inv_ds = questions::inv_ds(segments, s_min, s_max);
+    PathRecord {
+        order: config.order,
+        segments,
+        axes,
+        s_min,
+        s_max,
+        inv_ds,
+        mode,
+    }
+}
+
 // The build. Every call is answered: 0 with the path's record, and the buffer holds the coefficients, by axis, then
 // segment, then power; or the number of the first question that says no, and the buffer is as it was.
 pub fn from_waypoints_view(
@@ -44,7 +68,7 @@ pub fn from_waypoints_view(
         (r ≡ buildAnswer b (length (now (coeffs .entry))))
         × (now (coeffs .exit) ≡ bufferAfter b (now (coeffs .entry)))) ⌝ }
 {
-    let number = questions::build_questions(
+    let number = build_questions::build_questions(
         config,
         points,
         axes,
@@ -56,14 +80,11 @@ pub fn from_waypoints_view(
     if number != 0 {
         return refused(number);
     }
-    let order = config.order;
-    let s_min = config.s_min;
-    let s_max = config.s_max;
-    let mode = config.out_of_range_mode;
+    let path = accepted(config, points, axes);
     let start_state = config.start_state;
     let end_state = config.end_state;
-    let m = (order - 1) / 2;
-    let inv_ds = questions::inv_ds(points - 1, s_min, s_max);
+    let inv_ds = path.inv_ds;
+    let m = (config.order - 1) / 2;
     let n = points - 2;
     let plan = Plan {
         m,
@@ -77,16 +98,5 @@ pub fn from_waypoints_view(
     if !ok {
         return refused(307);
     }
-    BuildAnswer {
-        number: 0,
-        path: PathRecord {
-            order,
-            segments: points - 1,
-            axes,
-            s_min,
-            s_max,
-            inv_ds,
-            mode,
-        },
-    }
+    BuildAnswer { number: 0, path }
 }

@@ -10,11 +10,3 @@ stride-small m n h l = mul-le-mul {n₂ = 256} {m₂ = 8} (omega arith) (omega a
 -- the cells of a table
 pub table-small : (axes stride : ℕ) → axes ≤ 8 → stride ≤ 2048 → axes * stride ≤ 16384
 table-small axes stride h l = mul-le-mul h l
-
--- the entries of a matrix
-pub matrix-small : (m : ℕ) → m ≤ 3 → m * m ≤ 9
-matrix-small m h = mul-le-mul h h
-
--- the entries of H
-pub upper-small : (m : ℕ) → m ≤ 3 → (m + 1) * (1 + 2 * m) ≤ 28
-upper-small m h = mul-le-mul {n₂ = 4} {m₂ = 7} (omega arith) (omega arith)

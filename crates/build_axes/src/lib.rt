@@ -2,87 +2,14 @@
 // answered (crates/questions), and no cell is written before the last.
 ghost use mathlib.Core.Path.{_≡_};
 ghost use mathlib.Core.Bool.{cond};
-ghost use Prim.Native.Nat.{_+_, _*_, _≤_, _<_};
+ghost use Prim.Native.Nat.{_+_, _*_, _≤_};
 ghost use lib.ListN.{length};
-ghost use Rattle.build_nodes.specs.Kept.{Room};
-ghost use Rattle.build_axes.specs.Axes.{Shared, Fillable, axisTable, allAxes, everyNode};
+ghost use Rattle.rules.specs.Build.{everyPivot};
+ghost use Rattle.build_nodes.specs.NodeLists.{Room};
+ghost use Rattle.build_segments.specs.Given.{Planned};
+ghost use Rattle.build_axes.specs.AllAxes.{Shared, allAxes};
+use build_segments::Plan;
 use build_segments::tables::BlockMatrices;
-use rules::BoundaryState;
-
-// What a build goes by, its lists aside: m and the inner nodes, the axes, inv_ds, and both states.
-pub struct Plan {
-    pub m: usize,
-    pub n: usize,
-    pub axes: usize,
-    pub inv_ds: f64,
-    pub start_state: BoundaryState,
-    pub end_state: BoundaryState,
-}
-
-// One axis: the numbers of its first and last node, then its coefficients.
-fn fill_axis(
-    plan: Plan,
-    tables: BlockMatrices,
-    entries: &[f64],
-    rows: &[usize],
-    solved_c: &[f64],
-    waypoints: &[f64],
-    start: &[f64],
-    end: &[f64],
-    axis: usize,
-    solved: &mut [f64],
-    chunk: &mut [f64],
-)
-    requires { ⌜ Shared plan tables (now entries) (now rows) (now «solved_c») (now waypoints) (now start) (now end)
-        × (axis < plan .axes)
-        × (plan .n * plan .m ≤ length (now solved))
-        × (length (now chunk) ≡ (plan .n + 1) * (2 * plan .m + 2)) ⌝ }
-    ensures { λ x. ⌜ now (chunk .exit) ≡ axisTable plan (now (waypoints .entry)) (now (start .entry)) (now (end .entry)) axis ⌝ }
-{
-    let m = plan.m;
-    let n = plan.n;
-    let axes = plan.axes;
-    let inv_ds = plan.inv_ds;
-    let start_state = plan.start_state;
-    let end_state = plan.end_state;
-    let a = tables.a;
-    let c = tables.c;
-    let r = tables.r;
-    let h_coeff = tables.h_coeff;
-    let mm = m * m;
-    let width = (m + 1) * (1 + 2 * m);
-    let mut ends = [0.0; 6];
-    let mut side = [0.0; 3];
-    build_segments::boundary::both_ends(
-        m,
-        axes,
-        inv_ds,
-        start_state,
-        start,
-        end_state,
-        end,
-        axis,
-        &mut ends[0..m + m],
-    );
-    build_thomas::row::thomas_row(
-        m,
-        n,
-        &r[0..m * 2],
-        &a[0..mm],
-        &c[0..mm],
-        &h_coeff[0..width],
-        entries,
-        rows,
-        solved_c,
-        axes,
-        waypoints,
-        axis,
-        &ends[0..m + m],
-        &mut side[0..m],
-        solved,
-        chunk,
-    );
-}
 
 // All axes, one after the other, in the place of what the buffer held.
 fn fill_axes(
@@ -107,16 +34,17 @@ fn fill_axes(
     let mut axis = 0;
     while axis < axes {
         let at = axis * stride;
-        fill_axis(
+        let mut ends = [0.0; 6];
+        build_segments::boundary::both_ends(plan, start, end, axis, &mut ends);
+        build_thomas::row::thomas_row(
             plan,
             tables,
             entries,
             rows,
             solved_c,
             waypoints,
-            start,
-            end,
             axis,
+            &ends,
             solved,
             &mut coeffs[at..at + stride],
         );
@@ -137,10 +65,11 @@ pub fn solve_general_thomas(
     solved: &mut [f64],
     coeffs: &mut [f64],
 ) -> bool
-    requires { ⌜ Fillable plan (now waypoints) (now start) (now end) (now coeffs)
+    requires { ⌜ Planned plan (now waypoints) (now start) (now end)
+        × (length (now coeffs) ≡ plan .axes * ((plan .n + 1) * (2 * plan .m + 2)))
         × Room (plan .m) (plan .n) (now entries) (now rows) (now «solved_c»)
         × (plan .n * plan .m ≤ length (now solved)) ⌝ }
-    ensures { λ ok. ⌜ (ok ≡ everyNode (plan .m) (plan .n))
+    ensures { λ ok. ⌜ (ok ≡ everyPivot (plan .m) (plan .n))
         × (now (coeffs .exit) ≡ cond ok (allAxes plan (now (waypoints .entry)) (now (start .entry)) (now (end .entry))) (now (coeffs .entry))) ⌝ }
 {
     let m = plan.m;

@@ -12,7 +12,7 @@ use Rattle.rules.specs.Lists.{joined}
 use Rattle.rules.specs.Solve.{Factored, matrix, solve, column, solveMatrix}
 use Rattle.rules.proofs.Filling.{listed-at, listed-ext, listed-of, joined-ext, matrix-at, matrix-ext}
 use Rattle.rules.proofs.Solve.{length-solve}
-use Rattle.build_block.specs.Kept.{transposed}
+use Rattle.build_block.specs.Columns.{transposed}
 use Rattle.rules.proofs.Lists.{part-inside}
 use Rattle.rules.proofs.Cells.{part-cell}
 use Rattle.build_block.proofs.Transposed.{transposed-at}

@@ -8,7 +8,7 @@ use lib.Ieee.{Float}
 use Rattle.rules.specs.Floats.{_⊗_, _!_, +0, sumOf}
 use Rattle.rules.specs.Solve.{entry, times}
 use Rattle.rules.proofs.Filling.{listed-at, matrix-at, matrix-ext, matrix-of, length-matrix}
-use Rattle.build_block.specs.Kept.{transposed}
+use Rattle.build_block.specs.Columns.{transposed, ByRows, ByColumns}
 use Rattle.rules.proofs.Cells.{part-cell}
 use Rattle.build_block.proofs.Sums.{sumOf-ext}
 
@@ -34,6 +34,17 @@ module _ (m : ℕ) (a : List Float) where
 pub transposed-twice : (m : ℕ) (a : List Float) → length a ≡ m * m → transposed m (transposed m a) ≡ a
 unfolding transposed
 transposed-twice m a e = matrix-ext m m _ (entry m a) (λ i j h l. transposed-at m a j i l h) ∙ matrix-of m m a e
+
+-- ---- a list that holds a matrix: how long it is, and the matrix again
+
+pub rows-long : {size : ℕ} {xs a : List Float} → ByRows size xs a → length xs ≡ size
+rows-long h = ap length (h .is) ∙ h .sized
+
+pub columns-long : {m : ℕ} {xs a : List Float} → ByColumns m xs a → length xs ≡ m * m
+columns-long {m} {xs} {a} h = ap length (h .is) ∙ length-transposed m a
+
+pub columns-are : {m : ℕ} {xs a : List Float} → ByColumns m xs a → transposed m xs ≡ a
+columns-are {m} {xs} {a} h = ap (transposed m) (h .is) ∙ transposed-twice m a (h .sized)
 
 -- a row of one matrix times a column of another, where both are kept by columns
 pub row-times-column : (m : ℕ) (a b : List Float) (r c : ℕ) → r < m → c < m

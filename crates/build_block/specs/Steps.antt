@@ -9,7 +9,7 @@ use lib.Ieee.{Float}
 use Rattle.rules.specs.Floats.{_⊖_, _⊗_, _⊘_, _!_}
 use Rattle.rules.specs.Lists.{listed}
 use Rattle.rules.specs.Solve.{entry}
-use Rattle.build_block.specs.Kept.{Below}
+use Rattle.build_block.specs.Columns.{Below}
 
 -- what solving is lent: a factored matrix with its rows, a right side, and room for the result
 pub record Solvable (m : ℕ) (entries : List Float) (rows : List ℕ) (b y : List Float) : Type 0 where

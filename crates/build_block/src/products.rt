@@ -4,7 +4,7 @@ ghost use Prim.Native.Nat.{_+_, _*_, _≤_, _<_};
 ghost use lib.ListN.{length};
 ghost use Rattle.rules.specs.Floats.{_⊗_, _!_, sumOf};
 ghost use Rattle.rules.specs.Solve.{times, minus};
-ghost use Rattle.build_block.specs.Kept.{transposed};
+ghost use Rattle.build_block.specs.Columns.{transposed};
 
 // The sum of m products: the numbers of a from `at` on, each `step` behind the one before, times those of v.
 pub fn dot(m: usize, a: &[f64], at: usize, step: usize, v: &[f64]) -> f64

@@ -6,7 +6,7 @@ ghost use lib.ListN.{length, getD};
 ghost use Rattle.rules.specs.Floats.{_!_};
 ghost use Rattle.rules.specs.Lists.{listed};
 ghost use Rattle.rules.specs.Solve.{forward, solve, solveMatrix};
-ghost use Rattle.build_block.specs.Kept.{transposed, Below};
+ghost use Rattle.build_block.specs.Columns.{transposed, Below};
 ghost use Rattle.build_block.specs.Steps.{Solvable, forwardStep, backwardStep};
 
 // The right side with its rows exchanged.

@@ -9,8 +9,8 @@ use Rattle.rules.specs.Floats.{_⊖_, _!_}
 use Rattle.rules.specs.Tables.{A, B, C}
 use Rattle.rules.specs.Solve.{Factored, entry, matrix, column, factor, solve, solveMatrix, nodeMatrix, nodeFactors, solvedC}
 use Rattle.rules.proofs.Filling.{listed-ext, matrix-ext, length-matrix, parts-at}
-use Rattle.build_block.specs.Kept.{transposed}
-use Rattle.build_nodes.specs.Kept.{Tables, nodeSolved}
+use Rattle.build_block.specs.Columns.{transposed, HoldsA, HoldsB}
+use Rattle.build_nodes.specs.NodeLists.{nodeSolved}
 use Rattle.build_nodes.specs.Steps.{nextEntry, SolvedTo}
 use Rattle.build_factoring.proofs.Factors.{length-factor, length-rows}
 use Rattle.rules.proofs.Parts.{Parted}
@@ -63,12 +63,12 @@ module _ (m : ℕ) where
       ∙ parts-at (m * m) (λ j. transposed m (solvedC m j)) (suc i) solved i (λ j l. length-solved j) (omega arith)
 
   -- a node past the first, from the part of the node before
-  pub node-after : (i j : ℕ) (a b c solved : List Float) → suc j ≡ i → Tables m a b c → SolvedTo m i solved
+  pub node-after : (i j : ℕ) (a b solved : List Float) → suc j ≡ i → HoldsA m a → HoldsB m b → SolvedTo m i solved
       → let at = j * (m * m) in
       matrix m m (nextEntry m (transposed m a) b (transposed m (take (at + m * m - at) (drop at solved)))) ≡ nodeMatrix m i
-  node-after i j a b c solved e t h =
+  node-after i j a b solved e s t h =
       let size : j * (m * m) + m * m - j * (m * m) ≡ m * m = omega arith in
-      rw (size, solved-part j solved (subst (λ (k : ℕ). SolvedTo m k solved) (sym e) h), t .a-is, t .b-is) (next-matrix j) ∙ ap (nodeMatrix m) e
+      rw (size, solved-part j solved (subst (λ (k : ℕ). SolvedTo m k solved) (sym e) h), s .is, t .is) (next-matrix j) ∙ ap (nodeMatrix m) e
 
   -- what solving with a node's factors gives
   pub solved-node : (i : ℕ) (a c entries : List Float) (rows : List ℕ) {out : List Float} → a ≡ nodeMatrix m i → entries ≡ factor m a .entries → rows ≡ factor m a .rows

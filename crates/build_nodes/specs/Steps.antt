@@ -6,7 +6,7 @@ use lib.ListN.{length, drop}
 use lib.Ieee.{Float}
 use Rattle.rules.specs.Floats.{_⊖_, _⊗_, sumOf}
 use Rattle.rules.specs.Solve.{entry}
-use Rattle.build_nodes.specs.Kept.{nodeSolved}
+use Rattle.build_nodes.specs.NodeLists.{nodeSolved}
 
 -- an entry of B − A·(previous solved C)
 abbrev pub nextEntry : ℕ → List Float → List Float → List Float → ℕ → ℕ → Float

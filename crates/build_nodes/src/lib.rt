@@ -5,17 +5,22 @@ ghost use mathlib.Core.Path.{_≡_};
 ghost use Prim.Native.Nat.{_+_, _*_, _≤_, _<_};
 ghost use mathlib.Core.List.{_++_};
 ghost use lib.ListN.{length, drop};
-ghost use Rattle.rules.specs.Lists.{listed, every};
-ghost use Rattle.rules.specs.Tables.{C};
+ghost use Rattle.rules.specs.Lists.{listed};
 ghost use Rattle.rules.specs.Solve.{matrix, nodeMatrix, nodeFactors, nonzeroPivots};
-ghost use Rattle.build_block.specs.Kept.{transposed};
-ghost use Rattle.build_nodes.specs.Kept.{Tables, Room, nodeEntries, nodeRows, nodeSolved};
+ghost use Rattle.rules.specs.Build.{everyPivot};
+ghost use Rattle.build_block.specs.Columns.{transposed, HoldsA, HoldsB, HoldsC};
+ghost use Rattle.build_nodes.specs.NodeLists.{Room, nodeEntries, nodeRows, nodeSolved};
 ghost use Rattle.build_nodes.specs.Steps.{nextEntry, SolvedTo};
 
 // Row r of the matrix of an inner node past the first.
 fn node_row(m: usize, r: usize, a: &[f64], b: &[f64], previous: &[f64], out: &mut [f64])
-    requires { ⌜ (r < m) × (length (now a) ≡ m * m) × (length (now b) ≡ m * m) × (length (now previous) ≡ m * m) × (length (now out) ≡ m) ⌝ }
-    ensures { λ x. ⌜ now (out .exit) ≡ listed m (nextEntry m (transposed m (now (a .entry))) (now (b .entry)) (transposed m (now (previous .entry))) r) ⌝ }
+    requires { ⌜ (r < m)
+        × (length (now a) ≡ m * m)
+        × (length (now b) ≡ m * m)
+        × (length (now previous) ≡ m * m)
+        × (length (now out) ≡ m) ⌝ }
+    ensures { λ x. ⌜ now (out .exit)
+        ≡ listed m (nextEntry m (transposed m (now (a .entry))) (now (b .entry)) (transposed m (now (previous .entry))) r) ⌝ }
 {
     let mut c = 0;
     while c < m {
@@ -27,8 +32,12 @@ fn node_row(m: usize, r: usize, a: &[f64], b: &[f64], previous: &[f64], out: &mu
 
 // The matrix of an inner node past the first.
 fn node_matrix(m: usize, a: &[f64], b: &[f64], previous: &[f64], out: &mut [f64])
-    requires { ⌜ (length (now a) ≡ m * m) × (length (now b) ≡ m * m) × (length (now previous) ≡ m * m) × (length (now out) ≡ m * m) ⌝ }
-    ensures { λ x. ⌜ now (out .exit) ≡ matrix m m (nextEntry m (transposed m (now (a .entry))) (now (b .entry)) (transposed m (now (previous .entry)))) ⌝ }
+    requires { ⌜ (length (now a) ≡ m * m)
+        × (length (now b) ≡ m * m)
+        × (length (now previous) ≡ m * m)
+        × (length (now out) ≡ m * m) ⌝ }
+    ensures { λ x. ⌜ now (out .exit)
+        ≡ matrix m m (nextEntry m (transposed m (now (a .entry))) (now (b .entry)) (transposed m (now (previous .entry)))) ⌝ }
 {
     let mut r = 0;
     while r < m {
@@ -40,7 +49,10 @@ fn node_matrix(m: usize, a: &[f64], b: &[f64], previous: &[f64], out: &mut [f64]
 
 // The matrix of inner node i. Past the first it takes solved C of the node before.
 fn node_entries(m: usize, i: usize, a: &[f64], b: &[f64], solved: &[f64], out: &mut [f64])
-    requires { ⌜ Tables m (now a) (now b) (transposed m (C m)) × SolvedTo m i (now solved) × (length (now out) ≡ m * m) ⌝ }
+    requires { ⌜ HoldsA m (now a)
+        × HoldsB m (now b)
+        × SolvedTo m i (now solved)
+        × (length (now out) ≡ m * m) ⌝ }
     ensures { λ x. ⌜ now (out .exit) ≡ nodeMatrix m i ⌝ }
 {
     if i == 0 {
@@ -62,8 +74,17 @@ fn factor_node(
     rows: &mut [usize],
     solved: &mut [f64],
 ) -> bool
-    requires { ⌜ Tables m (now a) (now b) (now c) × (length (now entries) ≡ m * m) × (length (now rows) ≡ m) × ((i + 1) * (m * m) ≤ length (now solved)) × SolvedTo m i (now solved) ⌝ }
-    ensures { λ r. ⌜ (r ≡ nonzeroPivots m (nodeFactors m i)) × (now (entries .exit) ≡ nodeFactors m i .entries) × (now (rows .exit) ≡ nodeFactors m i .rows) × (now (solved .exit) ≡ nodeSolved m (i + 1) ++ drop ((i + 1) * (m * m)) (now (solved .entry))) ⌝ }
+    requires { ⌜ HoldsA m (now a)
+        × HoldsB m (now b)
+        × HoldsC m (now c)
+        × (length (now entries) ≡ m * m)
+        × (length (now rows) ≡ m)
+        × ((i + 1) * (m * m) ≤ length (now solved))
+        × SolvedTo m i (now solved) ⌝ }
+    ensures { λ r. ⌜ (r ≡ nonzeroPivots m (nodeFactors m i))
+        × (now (entries .exit) ≡ nodeFactors m i .entries)
+        × (now (rows .exit) ≡ nodeFactors m i .rows)
+        × (now (solved .exit) ≡ nodeSolved m (i + 1) ++ drop ((i + 1) * (m * m)) (now (solved .entry))) ⌝ }
 {
     node_entries(m, i, a, b, solved, entries);
     let ok = build_factoring::factor(m, entries, rows);
@@ -83,8 +104,14 @@ pub fn factor_nodes(
     rows: &mut [usize],
     solved: &mut [f64],
 ) -> bool
-    requires { ⌜ Tables m (now a) (now b) (now c) × Room m n (now entries) (now rows) (now solved) ⌝ }
-    ensures { λ r. ⌜ (r ≡ every n (λ i. nonzeroPivots m (nodeFactors m i))) × (now (entries .exit) ≡ nodeEntries m n ++ drop (n * (m * m)) (now (entries .entry))) × (now (rows .exit) ≡ nodeRows m n ++ drop (n * m) (now (rows .entry))) × (now (solved .exit) ≡ nodeSolved m n ++ drop (n * (m * m)) (now (solved .entry))) ⌝ }
+    requires { ⌜ HoldsA m (now a)
+        × HoldsB m (now b)
+        × HoldsC m (now c)
+        × Room m n (now entries) (now rows) (now solved) ⌝ }
+    ensures { λ r. ⌜ (r ≡ everyPivot m n)
+        × (now (entries .exit) ≡ nodeEntries m n ++ drop (n * (m * m)) (now (entries .entry)))
+        × (now (rows .exit) ≡ nodeRows m n ++ drop (n * m) (now (rows .entry)))
+        × (now (solved .exit) ≡ nodeSolved m n ++ drop (n * (m * m)) (now (solved .entry))) ⌝ }
 {
     let mut ok = true;
     let mut i = 0;

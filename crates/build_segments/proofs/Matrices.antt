@@ -1,49 +1,47 @@
--- The tables of an m serve both for right sides and for upper coefficients. Assumes nothing.
-use mathlib.Core.Path.{_≡_, sym, ap, _∙_, subst}
+-- The tables of an m in arrays that have room for m = 3, lent from their start. Assumes nothing.
+use mathlib.Core.Path.{_≡_, sym, _∙_, subst}
 use mathlib.Core.List.{List}
 use Prim.Native.Nat.{ℕ, _+_, _-_, _*_, _≤_}
 use native.Mathlib.Nat.{min-le-right, sub-zero}
 use lib.ListN.{length, take, length-take}
 use lib.Ieee.{Float}
-use Rattle.rules.specs.Tables.{A, C}
-use Rattle.build_block.proofs.Transposed.{length-transposed}
-use Rattle.build_segments.specs.Kept.{Matrices, Starts, SideTables, UpperTable}
+use Rattle.build_block.specs.Columns.{ByRows, ByColumns, HoldsA, HoldsB, HoldsC, HoldsR, HoldsH}
+use Rattle.build_block.proofs.Transposed.{rows-long, columns-long}
+use Rattle.build_segments.specs.declared.tables.BlockMatrices.{BlockMatrices}
+use Rattle.build_segments.specs.Tables.{Matrices}
 
-module _ {m : ℕ} {a b c r h : List Float} (t : Matrices m a b c r h) (some : 1 ≤ m) where
-  pub side-tables : SideTables m r a c
-  side-tables = record {
-    r-is = t .r-is;
-    r-length = ap length (t .r-is) ∙ t .r-length;
-    a-is = t .a-is;
-    a-length = t .a-length;
-    c-is = t .c-is;
-    c-length = t .c-length;
-    some = some;
-  }
+-- an array that starts with so many cells has them
+room : (k : ℕ) (xs : List Float) → length (take k xs) ≡ k → k ≤ length xs
+room k xs e = subst (λ (j : ℕ). j ≤ length xs) (sym (length-take k xs) ∙ e) (min-le-right k (length xs))
 
-  pub upper-table : UpperTable m h
-  upper-table = record { h-is = t .h-is; h-length = ap length (t .h-is) ∙ t .h-length; some = some }
+module _ {m : ℕ} {t : BlockMatrices} (h : Matrices m t) where
+  pub a-room : m * m ≤ length (t .a)
+  a-room = room (m * m) (t .a) (columns-long (h .a))
 
-full : (k : ℕ) (xs : List Float) → length (take k xs) ≡ k → k ≤ length xs
-full k xs e = subst (λ (j : ℕ). j ≤ length xs) (sym (length-take k xs) ∙ e) (min-le-right k (length xs))
+  pub b-room : m * m ≤ length (t .b)
+  b-room = room (m * m) (t .b) (rows-long (h .b))
 
--- the arrays that they stand in have room for them
-module _ (m : ℕ) (a b c r h : List Float) (t : Starts m a b c r h) where
-  pub a-room : m * m ≤ length a
-  a-room = full (m * m) a (ap length (t .a-is) ∙ length-transposed m (A m))
+  pub c-room : m * m ≤ length (t .c)
+  c-room = room (m * m) (t .c) (columns-long (h .c))
 
-  pub b-room : m * m ≤ length b
-  b-room = full (m * m) b (ap length (t .b-is) ∙ t .b-length)
+  pub r-room : m * 2 ≤ length (t .r)
+  r-room = room (m * 2) (t .r) (rows-long (h .r))
 
-  pub c-room : m * m ≤ length c
-  c-room = full (m * m) c (ap length (t .c-is) ∙ length-transposed m (C m))
-
-  pub r-room : m * 2 ≤ length r
-  r-room = full (m * 2) r (ap length (t .r-is) ∙ t .r-length)
-
-  pub h-room : (m + 1) * (1 + 2 * m) ≤ length h
-  h-room = full ((m + 1) * (1 + 2 * m)) h (ap length (t .h-is) ∙ t .h-length)
+  pub h-room : (m + 1) * (1 + 2 * m) ≤ length (t .«h_coeff»)
+  h-room = room ((m + 1) * (1 + 2 * m)) (t .«h_coeff») (rows-long (h .h))
 
   -- as the parts from the start are lent
-  pub lent : Matrices m (take (m * m - 0) a) (take (m * m - 0) b) (take (m * m - 0) c) (take (m * 2 - 0) r) (take ((m + 1) * (1 + 2 * m) - 0) h)
-  lent = simp sub-zero t
+  pub a-lent : HoldsA m (take (m * m - 0) (t .a))
+  a-lent = rw sub-zero (h .a)
+
+  pub b-lent : HoldsB m (take (m * m - 0) (t .b))
+  b-lent = rw sub-zero (h .b)
+
+  pub c-lent : HoldsC m (take (m * m - 0) (t .c))
+  c-lent = rw sub-zero (h .c)
+
+  pub r-lent : HoldsR m (take (m * 2 - 0) (t .r))
+  r-lent = rw sub-zero (h .r)
+
+  pub h-lent : HoldsH m (take ((m + 1) * (1 + 2 * m) - 0) (t .«h_coeff»))
+  h-lent = rw sub-zero (h .h)

@@ -11,7 +11,7 @@ use lib.Seq.{length-take-le}
 use lib.Ieee.{Float}
 use Rattle.rules.proofs.Lists.{part-inside}
 use Rattle.rules.proofs.Filling.{lt-or-le}
-use Rattle.build_segments.specs.Kept.{nodePart}
+use Rattle.build_segments.specs.NodeNumbers.{nodePart}
 
 module _ (m n : ℕ) (boundary solved : List Float) where
   pub last-part : (i : ℕ) → n < i → nodePart m n boundary solved i ≡ take m (drop m boundary)
@@ -24,7 +24,7 @@ module _ (m n : ℕ) (boundary solved : List Float) where
   inner-part zero p h = absurd (not-suc-le-zero p)
   inner-part (suc i) p h = rw (lt-ltb i n h) (ap (λ (k : ℕ). take m (drop (k * m) solved)) (omega arith))
 
-  pub length-part : length boundary ≡ m + m → n * m ≤ length solved → (i : ℕ) → length (nodePart m n boundary solved i) ≡ m
+  pub length-part : m + m ≤ length boundary → n * m ≤ length solved → (i : ℕ) → length (nodePart m n boundary solved i) ≡ m
   unfolding nodePart
   length-part both all zero = length-take-le m boundary (omega arith)
   length-part both all (suc i) = go (lt-or-le i n)

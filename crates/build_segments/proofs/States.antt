@@ -5,7 +5,7 @@ use native.Mathlib.Nat.{le-trans, mul-le-mul-right}
 use lib.Ieee.{Float}
 use Rattle.rules.specs.declared.BoundaryState.{BoundaryState}
 use Rattle.rules.specs.declared.BoundaryState.the-variants.{None, Given}
-use Rattle.build_segments.specs.Kept.{HasNumbers}
+use Rattle.build_segments.specs.Given.{HasNumbers}
 
 pub fewer : (axes k m : ℕ) (state : BoundaryState) (numbers : List Float) → k ≤ m → HasNumbers axes m state numbers → HasNumbers axes k state numbers
 fewer axes k m None numbers l h = tt

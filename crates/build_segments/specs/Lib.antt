@@ -1,1 +1,3 @@
-pub mod Kept
+pub mod Given
+pub mod NodeNumbers
+pub mod Tables

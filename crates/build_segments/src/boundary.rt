@@ -1,11 +1,11 @@
 // The numbers of the first and the last node, from the states that a build is given.
 ghost use mathlib.Core.Path.{_≡_};
-ghost use Prim.Native.Nat.{_+_, _*_, _<_};
-ghost use mathlib.Core.List.{_++_};
+ghost use Prim.Native.Nat.{_+_, _≤_, _<_};
 ghost use lib.ListN.{length};
 ghost use Rattle.rules.specs.Lists.{listed};
 ghost use Rattle.rules.specs.Build.{divided, boundaryNumber};
-ghost use Rattle.build_segments.specs.Kept.{HasNumbers};
+ghost use Rattle.build_segments.specs.Given.{HasNumbers, BothEnds};
+use crate::Plan;
 use rules::BoundaryState;
 
 // x divided so many times, one division after another.
@@ -72,20 +72,18 @@ fn boundary_numbers(
 }
 
 // The 2m numbers of an axis's first node and of its last, one behind the other.
-pub fn both_ends(
-    m: usize,
-    axes: usize,
-    inv_ds: f64,
-    start_state: BoundaryState,
-    start: &[f64],
-    end_state: BoundaryState,
-    end: &[f64],
-    axis: usize,
-    ends: &mut [f64],
-)
-    requires { ⌜ (axis < axes) × HasNumbers axes m «start_state» (now start) × HasNumbers axes m «end_state» (now end) × (length (now ends) ≡ m + m) ⌝ }
-    ensures { λ x. ⌜ now (ends .exit) ≡ listed m (boundaryNumber axes «inv_ds» «start_state» (now (start .entry)) axis) ++ listed m (boundaryNumber axes «inv_ds» «end_state» (now (end .entry)) axis) ⌝ }
+pub fn both_ends(plan: Plan, start: &[f64], end: &[f64], axis: usize, ends: &mut [f64])
+    requires { ⌜ (axis < plan .axes)
+        × HasNumbers (plan .axes) (plan .m) (plan .«start_state») (now start)
+        × HasNumbers (plan .axes) (plan .m) (plan .«end_state») (now end)
+        × (plan .m + plan .m ≤ length (now ends)) ⌝ }
+    ensures { λ x. ⌜ BothEnds plan (now (start .entry)) (now (end .entry)) axis (now (ends .exit)) ⌝ }
 {
+    let m = plan.m;
+    let axes = plan.axes;
+    let inv_ds = plan.inv_ds;
+    let start_state = plan.start_state;
+    let end_state = plan.end_state;
     boundary_numbers(m, axes, inv_ds, start_state, start, axis, &mut ends[0..m]);
     boundary_numbers(m, axes, inv_ds, end_state, end, axis, &mut ends[m..m + m]);
 }

@@ -4,3 +4,15 @@
 pub mod boundary;
 pub mod segment;
 pub mod tables;
+
+use rules::BoundaryState;
+
+// What a build goes by, its lists aside: m, the inner nodes, the axes, inv_ds, and both states.
+pub struct Plan {
+    pub m: usize,
+    pub n: usize,
+    pub axes: usize,
+    pub inv_ds: f64,
+    pub start_state: BoundaryState,
+    pub end_state: BoundaryState,
+}

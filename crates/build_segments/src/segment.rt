@@ -6,7 +6,8 @@ ghost use Rattle.rules.specs.Floats.{_⊗_, _⊕_, _⊖_, _!_};
 ghost use Rattle.rules.specs.Lists.{listed};
 ghost use Rattle.rules.specs.Solve.{entry};
 ghost use Rattle.rules.specs.Build.{upperCoefficient, segmentCoefficients};
-ghost use Rattle.build_segments.specs.Kept.{UpperTable, nodePart};
+ghost use Rattle.build_block.specs.Columns.{HoldsH};
+ghost use Rattle.build_segments.specs.NodeNumbers.{nodePart};
 
 // Waypoint p of an axis: "Waypoints are column-major, axes by points".
 pub fn waypoint(axes: usize, waypoints: &[f64], axis: usize, p: usize) -> f64
@@ -27,7 +28,8 @@ pub fn dy(axes: usize, waypoints: &[f64], axis: usize, i: usize) -> f64
 // "R[·,0] × dy before + R[·,1] × dy after".
 pub fn compute_rhs(m: usize, r: &[f64], dy_prev: f64, dy_next: f64, out: &mut [f64])
     requires { ⌜ (length (now r) ≡ m * 2) × (length (now out) ≡ m) ⌝ }
-    ensures { λ x. ⌜ now (out .exit) ≡ listed m (λ k. entry 2 (now (r .entry)) k 0 ⊗ «dy_prev» ⊕ entry 2 (now (r .entry)) k 1 ⊗ «dy_next») ⌝ }
+    ensures { λ x. ⌜ now (out .exit)
+        ≡ listed m (λ k. entry 2 (now (r .entry)) k 0 ⊗ «dy_prev» ⊕ entry 2 (now (r .entry)) k 1 ⊗ «dy_next») ⌝ }
 {
     let mut k = 0;
     while k < m {
@@ -45,7 +47,9 @@ pub fn node_numbers<'a>(
     solved: &'a [f64],
     i: usize,
 ) -> &'a [f64]
-    requires { ⌜ (length (now boundary) ≡ m + m) × (n * m ≤ length (now solved)) × (i ≤ n + 1) ⌝ }
+    requires { ⌜ (m + m ≤ length (now boundary))
+        × (n * m ≤ length (now solved))
+        × (i ≤ n + 1) ⌝ }
     ensures { λ r. ⌜ now r ≡ nodePart m n (now (boundary .entry)) (now (solved .entry)) i ⌝ }
 {
     if i == 0 {
@@ -60,7 +64,11 @@ pub fn node_numbers<'a>(
 
 // "Upper coefficient i = (H[i,0] × dy + P) + Q": the m + 1 of a segment.
 pub fn upper_coeffs(m: usize, h_coeff: &[f64], dy: f64, u0: &[f64], u1: &[f64], out: &mut [f64])
-    requires { ⌜ UpperTable m (now «h_coeff») × (length (now u0) ≡ m) × (length (now u1) ≡ m) × (length (now out) ≡ m + 1) ⌝ }
+    requires { ⌜ (1 ≤ m)
+        × HoldsH m (now «h_coeff»)
+        × (length (now u0) ≡ m)
+        × (length (now u1) ≡ m)
+        × (length (now out) ≡ m + 1) ⌝ }
     ensures { λ x. ⌜ now (out .exit) ≡ listed (m + 1) (upperCoefficient m dy (now (u0 .entry)) (now (u1 .entry))) ⌝ }
 {
     let width = 1 + 2 * m;
@@ -84,7 +92,11 @@ pub fn write_segment_coeffs(
     u1: &[f64],
     out: &mut [f64],
 )
-    requires { ⌜ UpperTable m (now «h_coeff») × (length (now u0) ≡ m) × (length (now u1) ≡ m) × (length (now out) ≡ 2 * m + 2) ⌝ }
+    requires { ⌜ (1 ≤ m)
+        × HoldsH m (now «h_coeff»)
+        × (length (now u0) ≡ m)
+        × (length (now u1) ≡ m)
+        × (length (now out) ≡ 2 * m + 2) ⌝ }
     ensures { λ x. ⌜ now (out .exit) ≡ segmentCoefficients m y dy (now (u0 .entry)) (now (u1 .entry)) ⌝ }
 {
     let upper = m + 1;

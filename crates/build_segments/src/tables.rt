@@ -1,6 +1,6 @@
 // The tables of document 01, as the source's `BlockMatrices` has them.
 ghost use Prim.Native.Nat.{_≤_};
-ghost use Rattle.build_segments.specs.Kept.{Starts};
+ghost use Rattle.build_segments.specs.Tables.{Matrices};
 
 // For an m: A and C by columns, which is how products and solving go through them, B, R and H by
 // rows. Each has room for m = 3; a smaller m leaves the rest zero.
@@ -13,7 +13,7 @@ pub struct BlockMatrices {
 }
 
 pub fn m1() -> BlockMatrices
-    ensures { λ t. ⌜ Starts 1 (t .a) (t .b) (t .c) (t .r) (t .«h_coeff») ⌝ }
+    ensures { λ t. ⌜ Matrices 1 t ⌝ }
 {
     let a = [1.0, 0.0, 0.0, 0.0, 0.0, 0.0, 0.0, 0.0, 0.0];
     let b = [4.0, 0.0, 0.0, 0.0, 0.0, 0.0, 0.0, 0.0, 0.0];
@@ -59,7 +59,7 @@ pub fn m1() -> BlockMatrices
 }
 
 pub fn m2() -> BlockMatrices
-    ensures { λ t. ⌜ Starts 2 (t .a) (t .b) (t .c) (t .r) (t .«h_coeff») ⌝ }
+    ensures { λ t. ⌜ Matrices 2 t ⌝ }
 {
     let a = [-4.0, -7.0, -1.0, -2.0, 0.0, 0.0, 0.0, 0.0, 0.0];
     let b = [0.0, 6.0, -16.0, 0.0, 0.0, 0.0, 0.0, 0.0, 0.0];
@@ -105,7 +105,7 @@ pub fn m2() -> BlockMatrices
 }
 
 pub fn m3() -> BlockMatrices
-    ensures { λ t. ⌜ Starts 3 (t .a) (t .b) (t .c) (t .r) (t .«h_coeff») ⌝ }
+    ensures { λ t. ⌜ Matrices 3 t ⌝ }
 {
     let a = [15.0, 39.0, 34.0, 5.0, 14.0, 13.0, 1.0, 3.0, 3.0];
     let b = [40.0, 0.0, 8.0, 0.0, -40.0, 0.0, 72.0, 0.0, 8.0];
@@ -153,7 +153,7 @@ pub fn m3() -> BlockMatrices
 // The tables for an m.
 pub fn for_order(m: usize) -> BlockMatrices
     requires { ⌜ (1 ≤ m) × (m ≤ 3) ⌝ }
-    ensures { λ t. ⌜ Starts m (t .a) (t .b) (t .c) (t .r) (t .«h_coeff») ⌝ }
+    ensures { λ t. ⌜ Matrices m t ⌝ }
 {
     if m == 1 {
         m1()

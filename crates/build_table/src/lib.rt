@@ -1,14 +1,19 @@
 // The table of a build: the lists per node, which factoring and filling (crates/build_axes) are lent.
 ghost use mathlib.Core.Path.{_≡_};
 ghost use mathlib.Core.Bool.{cond};
-ghost use Rattle.build_axes.specs.Axes.{Fillable, allAxes, everyNode};
-use build_axes::Plan;
+ghost use Prim.Native.Nat.{_+_, _*_};
+ghost use lib.ListN.{length};
+ghost use Rattle.rules.specs.Build.{everyPivot};
+ghost use Rattle.build_segments.specs.Given.{Planned};
+ghost use Rattle.build_axes.specs.AllAxes.{allAxes};
+use build_segments::Plan;
 
 // "Lists per node: fixed arrays for 255 nodes." A curve with fewer nodes has shorter ones, since an array is set to
 // zero before it is used; two points have no inner node.
 pub fn fill(plan: Plan, waypoints: &[f64], start: &[f64], end: &[f64], coeffs: &mut [f64]) -> bool
-    requires { ⌜ Fillable plan (now waypoints) (now start) (now end) (now coeffs) ⌝ }
-    ensures { λ ok. ⌜ (ok ≡ everyNode (plan .m) (plan .n))
+    requires { ⌜ Planned plan (now waypoints) (now start) (now end)
+        × (length (now coeffs) ≡ plan .axes * ((plan .n + 1) * (2 * plan .m + 2))) ⌝ }
+    ensures { λ ok. ⌜ (ok ≡ everyPivot (plan .m) (plan .n))
         × (now (coeffs .exit) ≡ cond ok (allAxes plan (now (waypoints .entry)) (now (start .entry)) (now (end .entry))) (now (coeffs .entry))) ⌝ }
 {
     let n = plan.n;

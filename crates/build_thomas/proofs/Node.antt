@@ -8,8 +8,8 @@ use lib.Ieee.{Float}
 use Rattle.rules.specs.Tables.{B}
 use Rattle.rules.specs.Solve.{nodeMatrix, nodeFactors, solvedC}
 use Rattle.rules.proofs.Lists.{part-inside}
-use Rattle.build_block.specs.Kept.{Below, transposed}
-use Rattle.build_nodes.specs.Kept.{Room, nodeEntries, nodeRows, nodeSolved}
+use Rattle.build_block.specs.Columns.{Below, transposed}
+use Rattle.build_nodes.specs.NodeLists.{Room, nodeEntries, nodeRows, nodeSolved}
 use Rattle.build_factoring.proofs.Factors.{length-rows, rows-below}
 use Rattle.rules.proofs.Parts.{Parted, kept, part-at}
 use Rattle.build_nodes.proofs.Nodes.{length-entries, length-node-rows, length-solved}

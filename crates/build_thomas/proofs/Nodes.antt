@@ -11,21 +11,28 @@ use lib.Seq.{drop-at}
 use lib.Ieee.{Float}
 use Rattle.rules.specs.Floats.{_⊖_, _!_, +0}
 use Rattle.rules.specs.Lists.{joined}
-use Rattle.rules.specs.Build.{dy, segmentCoefficients, innerNumbers, nodeNumbers, axisCoefficients}
+use Rattle.rules.specs.Build.{ofAxis, dy, segmentCoefficients, innerNumbers, nodeNumbers, axisCoefficients}
 use Rattle.rules.proofs.Lists.{length-joined}
 use Rattle.rules.proofs.Filling.{lt-or-le, listed-at, joined-ext, parts-at}
 use Rattle.rules.proofs.Build.{length-inner}
 use Rattle.rules.proofs.Cells.{cell-inside}
-use Rattle.build_segments.specs.Kept.{nodePart}
-use Rattle.build_thomas.specs.Axis.{AxisOf, axisPoints, segmentOf}
+use Rattle.build_segments.specs.declared.Plan.{Plan}
+use Rattle.build_segments.specs.NodeNumbers.{firstOf, lastOf, nodePart}
+use Rattle.build_thomas.specs.Axis.{AxisOf, waypointsOf, segmentOf}
 
 -- rest is what the solved list has past the inner nodes' numbers
-module _ (m n : ℕ) (boundary solved w rest : List Float) where
+module _ (p : Plan) (boundary solved w rest : List Float) where
+  abbrev m : ℕ
+  m = p .m
+
+  abbrev n : ℕ
+  n = p .n
+
   abbrev first : List Float
-  first = take m boundary
+  first = firstOf m boundary
 
   abbrev last : List Float
-  last = take m (drop m boundary)
+  last = lastOf m boundary
 
   abbrev inner : ℕ → List Float
   inner j = innerNumbers m n w first last j (n - suc j)
@@ -54,14 +61,14 @@ module _ (m n : ℕ) (boundary solved w rest : List Float) where
 
 -- ---- the points of an axis
 
-module _ (points axes : ℕ) (waypoints : List Float) (axis : ℕ) where
-  pub points-at : (p : ℕ) → p < points → axisPoints points axes waypoints axis ! p ≡ waypoints ! (p * axes + axis)
-  unfolding axisPoints
-  points-at p h = listed-at +0 points _ p h
+module _ (p : Plan) (waypoints : List Float) (axis : ℕ) where
+  pub points-at : (k : ℕ) → k < p .n + 2 → waypointsOf p waypoints axis ! k ≡ ofAxis (p .axes) waypoints axis k
+  points-at k h = listed-at +0 (p .n + 2) _ k h
 
-  pub points-dy : (i : ℕ) → suc i < points → dy (axisPoints points axes waypoints axis) i ≡ waypoints ! (suc i * axes + axis) ⊖ waypoints ! (i * axes + axis)
+  pub points-dy : (i : ℕ) → suc i < p .n + 2
+      → dy (waypointsOf p waypoints axis) i ≡ ofAxis (p .axes) waypoints axis (suc i) ⊖ ofAxis (p .axes) waypoints axis i
   unfolding dy
   points-dy i h = ap₂ _⊖_ (points-at (suc i) h) (points-at i (omega arith))
 
-pub point-inside : {points axes axis : ℕ} {waypoints : List Float} → AxisOf points axes axis waypoints → (p : ℕ) → p < points → p * axes + axis < length waypoints
-point-inside {points} {axes} h p l = rw (h .waypoints-length) (cell-inside axes l (h .axis-below))
+pub point-inside : {p : Plan} {axis : ℕ} {waypoints : List Float} → AxisOf p axis waypoints → (k : ℕ) → k < p .n + 2 → k * p .axes + axis < length waypoints
+point-inside {p} h k l = rw (h .waypoints-length) (cell-inside (p .axes) l (h .axis-below))

@@ -1,37 +1,23 @@
 -- A node's right side as the code makes it up is the definition's, and so is the solved one. Assumes nothing.
-use mathlib.Core.Path.{_≡_, refl, sym, ap, _∙_}
+use mathlib.Core.Path.{_≡_, refl, sym, ap}
 use mathlib.Core.Bool.{Bool, true, false, cond}
 use mathlib.Core.List.{List}
 use Prim.Native.Nat.{ℕ, zero, suc, _+_, _-_, _*_, _<_}
 use native.Mathlib.Numerals.{add-one}
 use native.Mathlib.Omega.{arith}
 use borrow.Author.Tests.{lt-ltb}
-use lib.ListN.{length}
 use lib.Dec.{T, ltb, eqb, ltb→lt}
 use lib.Ieee.{Float}
 use Rattle.rules.specs.Floats.{_⊗_, _⊕_}
 use Rattle.rules.specs.Lists.{listed}
-use Rattle.rules.specs.Tables.{A, C}
+use Rattle.rules.specs.Tables.{A}
 use Rattle.rules.specs.Solve.{entry, times, minus, solve, nodeFactors}
 use Rattle.rules.specs.Build.{dy, rightSide, boundedSide, solvedSide}
-use Rattle.build_block.specs.Kept.{transposed}
-use Rattle.build_block.proofs.Transposed.{length-transposed, transposed-twice}
-use Rattle.build_segments.specs.Kept.{SideTables}
+use Rattle.build_block.specs.Columns.{transposed, HoldsA, HoldsC, HoldsR}
+use Rattle.build_block.proofs.Transposed.{columns-are}
 use Rattle.build_thomas.specs.Axis.{fullSide}
 
-module _ {m : ℕ} {r a c : List Float} (t : SideTables m r a c) where
-  pub a-long : length a ≡ m * m
-  a-long = ap length (t .a-is) ∙ length-transposed m (A m)
-
-  pub c-long : length c ≡ m * m
-  c-long = ap length (t .c-is) ∙ length-transposed m (C m)
-
-  pub a-rows : transposed m a ≡ A m
-  a-rows = ap (transposed m) (t .a-is) ∙ transposed-twice m (A m) (t .a-length)
-
-  pub c-rows : transposed m c ≡ C m
-  c-rows = ap (transposed m) (t .c-is) ∙ transposed-twice m (C m) (t .c-length)
-
+module _ {m : ℕ} {r a c : List Float} (holds-r : HoldsR m r) (holds-a : HoldsA m a) (holds-c : HoldsC m c) where
   abbrev side : Float → Float → List Float
   side before after = listed m (λ k. entry 2 r k 0 ⊗ before ⊕ entry 2 r k 1 ⊗ after)
 
@@ -41,7 +27,7 @@ module _ {m : ℕ} {r a c : List Float} (t : SideTables m r a c) where
   pub bounded-is : (n : ℕ) (w start end : List Float) (i : ℕ) (before after : Float) → dy w i ≡ before → dy w (suc i) ≡ after
       → cond (eqb (i + 1) n) (minus m (first i before after start) (times m (transposed m c) end)) (first i before after start) ≡ boundedSide m n w start end i
   unfolding boundedSide rightSide
-  bounded-is n w start end i before after p q = rw (a-rows, c-rows, add-one, ← p, ← q, t .r-is)
+  bounded-is n w start end i before after p q = rw (columns-are holds-a, columns-are holds-c, add-one, ← p, ← q, holds-r .is)
 
 -- what is subtracted past the first node alone, by its value there
 pub past-first : (m i : ℕ) (side a last previous : List Float) → (0 < i → last ≡ previous)
@@ -58,4 +44,6 @@ unfolding solvedSide
 solved-is m n w start end zero = refl
 solved-is m n w start end (suc i) =
     let before : suc i - 1 ≡ i = omega arith in
-    rw before (ap (λ (t : Bool). solve m (nodeFactors m (suc i)) (cond t (minus m (boundedSide m n w start end (suc i)) (times m (A m) (solvedSide m n w start end i))) (boundedSide m n w start end (suc i)))) (sym (lt-ltb 0 (suc i) (omega arith))))
+    let side : List Float = boundedSide m n w start end (suc i) in
+    let less : List Float = minus m side (times m (A m) (solvedSide m n w start end i)) in
+    rw before (ap (λ (t : Bool). solve m (nodeFactors m (suc i)) (cond t less side)) (sym (lt-ltb 0 (suc i) (omega arith))))

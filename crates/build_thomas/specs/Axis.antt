@@ -10,17 +10,19 @@ use Rattle.rules.specs.Floats.{_!_}
 use Rattle.rules.specs.Lists.{listed}
 use Rattle.rules.specs.Tables.{A}
 use Rattle.rules.specs.Solve.{times, minus, nodeFactors, solvedC}
-use Rattle.rules.specs.Build.{dy, segmentCoefficients, boundedSide, solvedSide}
-use Rattle.build_block.specs.Kept.{transposed}
-use Rattle.build_segments.specs.Kept.{nodePart}
+use Rattle.rules.specs.Build.{ofAxis, dy, segmentCoefficients, boundedSide, solvedSide}
+use Rattle.build_block.specs.Columns.{transposed}
+use Rattle.build_segments.specs.declared.Plan.{Plan}
+use Rattle.build_segments.specs.NodeNumbers.{nodePart}
 
--- an axis's waypoints, of a list that is column-major, axes by points
-unfoldable pub axisPoints : ℕ → ℕ → List Float → ℕ → List Float
-axisPoints points axes waypoints axis = listed points (λ p. waypoints ! (p * axes + axis))
+-- the waypoints of an axis, of those of all axes
+abbrev pub waypointsOf : Plan → List Float → ℕ → List Float
+waypointsOf p waypoints axis = listed (p .n + 2) (ofAxis (p .axes) waypoints axis)
 
-pub record AxisOf (points axes axis : ℕ) (waypoints : List Float) : Type 0 where
-  pub axis-below : axis < axes
-  pub waypoints-length : length waypoints ≡ points * axes
+pub record AxisOf (p : Plan) (axis : ℕ) (waypoints : List Float) : Type 0 where
+  pub few-nodes : p .n ≤ 255
+  pub axis-below : axis < p .axes
+  pub waypoints-length : length waypoints ≡ (p .n + 2) * p .axes
 
 -- of n inner nodes, one after the other: the factored matrices and their rows
 pub record NodeFactors (m n : ℕ) (entries : List Float) (rows : List ℕ) : Type 0 where
@@ -57,4 +59,6 @@ fullSide m n w start end i =
 
 -- segment i's coefficients, with its nodes' numbers as they are kept
 abbrev pub segmentOf : ℕ → ℕ → List Float → List Float → List Float → ℕ → List Float
-segmentOf m n w boundary solved i = segmentCoefficients m (w ! i) (dy w i) (nodePart m n boundary solved i) (nodePart m n boundary solved (suc i))
+segmentOf m n w boundary solved i =
+    let node : ℕ → List Float = nodePart m n boundary solved in
+    segmentCoefficients m (w ! i) (dy w i) (node i) (node (suc i))

@@ -9,19 +9,26 @@ ghost use Rattle.rules.specs.Lists.{joined};
 ghost use lib.Ieee.{Float};
 ghost use Rattle.rules.specs.Solve.{times, minus, solve, nodeFactors, solvedC};
 ghost use Rattle.rules.specs.Build.{dy, boundedSide, solvedSide, innerNumbers, axisCoefficients};
-ghost use Rattle.build_block.specs.Kept.{transposed};
-ghost use Rattle.build_segments.specs.Kept.{SideTables, UpperTable};
-ghost use Rattle.build_thomas.specs.Axis.{AxisOf, axisPoints, NodeFactors, NodeAt, NodeSolved, part, put, fullSide, segmentOf};
+ghost use Rattle.build_block.specs.Columns.{transposed, HoldsA, HoldsC, HoldsR, HoldsH};
+ghost use Rattle.build_segments.specs.NodeNumbers.{firstOf, lastOf};
+ghost use Rattle.build_segments.specs.Tables.{Matrices};
+ghost use Rattle.build_thomas.specs.Axis.{AxisOf, waypointsOf, NodeFactors, NodeAt, NodeSolved, part, put, fullSide, segmentOf};
+use build_segments::Plan;
 use build_segments::segment::compute_rhs;
 use build_segments::segment::dy;
 use build_segments::segment::node_numbers;
 use build_segments::segment::waypoint;
 use build_segments::segment::write_segment_coeffs;
+use build_segments::tables::BlockMatrices;
 
 // v − a·u where it is asked for, and else v; a is kept by columns.
 fn subtract_where(on: bool, m: usize, a: &[f64], u: &[f64], v: &mut [f64])
-    requires { ⌜ (1 ≤ m) × (length (now a) ≡ m * m) × (length (now u) ≡ m) × (length (now v) ≡ m) ⌝ }
-    ensures { λ x. ⌜ now (v .exit) ≡ cond on (minus m (now (v .entry)) (times m (transposed m (now (a .entry))) (now (u .entry)))) (now (v .entry)) ⌝ }
+    requires { ⌜ (1 ≤ m)
+        × (length (now a) ≡ m * m)
+        × (length (now u) ≡ m)
+        × (length (now v) ≡ m) ⌝ }
+    ensures { λ x. ⌜ now (v .exit)
+        ≡ cond on (minus m (now (v .entry)) (times m (transposed m (now (a .entry))) (now (u .entry)))) (now (v .entry)) ⌝ }
 {
     if !on {
         return;
@@ -32,8 +39,7 @@ fn subtract_where(on: bool, m: usize, a: &[f64], u: &[f64], v: &mut [f64])
 // The right side at inner node i, from the dy before it and after it: "at the first node minus A·start; at the
 // last then minus C·end".
 fn bounded_side(
-    m: usize,
-    n: usize,
+    plan: Plan,
     r: &[f64],
     a: &[f64],
     c: &[f64],
@@ -43,9 +49,19 @@ fn bounded_side(
     i: usize,
     side: &mut [f64],
 )
-    requires { ⌜ SideTables m (now r) (now a) (now c) × (length (now boundary) ≡ m + m) × (i < n) × (length (now side) ≡ m) ⌝ }
-    ensures { λ x. ⌜ ((w : List Float) → dy w i ≡ «dy_prev» → dy w (suc i) ≡ «dy_next» → now (side .exit) ≡ boundedSide m n w (take m (now (boundary .entry))) (take m (drop m (now (boundary .entry)))) i) ⌝ }
+    requires { ⌜ (1 ≤ plan .m)
+        × HoldsR (plan .m) (now r)
+        × HoldsA (plan .m) (now a)
+        × HoldsC (plan .m) (now c)
+        × (plan .m + plan .m ≤ length (now boundary))
+        × (i < plan .n)
+        × (length (now side) ≡ plan .m) ⌝ }
+    ensures { λ x. ⌜ ((w : List Float) → dy w i ≡ «dy_prev» → dy w (suc i) ≡ «dy_next»
+        → now (side .exit)
+        ≡ boundedSide (plan .m) (plan .n) w (firstOf (plan .m) (now (boundary .entry))) (lastOf (plan .m) (now (boundary .entry))) i) ⌝ }
 {
+    let m = plan.m;
+    let n = plan.n;
     compute_rhs(m, r, dy_prev, dy_next, side);
     subtract_where(i == 0, m, a, &boundary[0..m], side);
     subtract_where(i + 1 == n, m, c, &boundary[m..m + m], side);
@@ -64,8 +80,7 @@ fn previous(m: usize, i: usize) -> usize
 
 // The right side of inner node i, "past the first then minus A times the previous solved right side".
 fn full_side(
-    m: usize,
-    n: usize,
+    plan: Plan,
     r: &[f64],
     a: &[f64],
     c: &[f64],
@@ -76,17 +91,32 @@ fn full_side(
     solved: &[f64],
     side: &mut [f64],
 )
-    requires { ⌜ SideTables m (now r) (now a) (now c) × (length (now boundary) ≡ m + m) × (i < n) × (length (now side) ≡ m) × (i * m ≤ length (now solved)) × ((i - 1) * m + m ≤ length (now solved)) ⌝ }
-    ensures { λ x. ⌜ ((w : List Float) → dy w i ≡ «dy_prev» → dy w (suc i) ≡ «dy_next» → (0 < i → part m (now (solved .entry)) (i - 1) ≡ solvedSide m n w (take m (now (boundary .entry))) (take m (drop m (now (boundary .entry)))) (i - 1)) → now (side .exit) ≡ fullSide m n w (take m (now (boundary .entry))) (take m (drop m (now (boundary .entry)))) i) ⌝ }
+    requires { ⌜ (1 ≤ plan .m)
+        × HoldsR (plan .m) (now r)
+        × HoldsA (plan .m) (now a)
+        × HoldsC (plan .m) (now c)
+        × (plan .m + plan .m ≤ length (now boundary))
+        × (i < plan .n)
+        × (length (now side) ≡ plan .m)
+        × (i * plan .m ≤ length (now solved))
+        × ((i - 1) * plan .m + plan .m ≤ length (now solved)) ⌝ }
+    ensures { λ x. ⌜ (let first = firstOf (plan .m) (now (boundary .entry)) in
+        let last = lastOf (plan .m) (now (boundary .entry)) in
+        (w : List Float) → dy w i ≡ «dy_prev» → dy w (suc i) ≡ «dy_next»
+        → (0 < i → part (plan .m) (now (solved .entry)) (i - 1) ≡ solvedSide (plan .m) (plan .n) w first last (i - 1))
+        → now (side .exit) ≡ fullSide (plan .m) (plan .n) w first last i) ⌝ }
 {
-    bounded_side(m, n, r, a, c, dy_prev, dy_next, boundary, i, side);
+    let m = plan.m;
+    bounded_side(plan, r, a, c, dy_prev, dy_next, boundary, i, side);
     let last = previous(m, i);
     subtract_where(0 < i, m, a, &solved[last..last + m], side);
 }
 
 // A right side solved with the factored matrix of inner node i, into its place.
 fn solve_node(m: usize, i: usize, entries: &[f64], rows: &[usize], side: &[f64], solved: &mut [f64])
-    requires { ⌜ NodeAt m i (now entries) (now rows) × (length (now side) ≡ m) × (i * m + m ≤ length (now solved)) ⌝ }
+    requires { ⌜ NodeAt m i (now entries) (now rows)
+        × (length (now side) ≡ m)
+        × (i * m + m ≤ length (now solved)) ⌝ }
     ensures { λ x. ⌜ now (solved .exit) ≡ put m i (solve m (nodeFactors m i) (now (side .entry))) (now (solved .entry)) ⌝ }
 {
     let at = i * (m * m);
@@ -102,28 +132,41 @@ fn solve_node(m: usize, i: usize, entries: &[f64], rows: &[usize], side: &[f64],
 
 // The solved right sides of all n inner nodes. A dy is worked out once: the one after a node is the one before the next.
 fn forward_sweep(
-    m: usize,
-    n: usize,
+    plan: Plan,
     r: &[f64],
     a: &[f64],
     c: &[f64],
     entries: &[f64],
     rows: &[usize],
-    axes: usize,
     waypoints: &[f64],
     axis: usize,
     boundary: &[f64],
     side: &mut [f64],
     solved: &mut [f64],
 )
-    requires { ⌜ SideTables m (now r) (now a) (now c) × NodeFactors m n (now entries) (now rows) × AxisOf (n + 2) axes axis (now waypoints) × (length (now boundary) ≡ m + m) × (length (now side) ≡ m) × (n * m ≤ length (now solved)) ⌝ }
-    ensures { λ x. ⌜ now (solved .exit) ≡ joined n (solvedSide m n (axisPoints (n + 2) axes (now (waypoints .entry)) axis) (take m (now (boundary .entry))) (take m (drop m (now (boundary .entry))))) ++ drop (n * m) (now (solved .entry)) ⌝ }
+    requires { ⌜ (1 ≤ plan .m)
+        × HoldsR (plan .m) (now r)
+        × HoldsA (plan .m) (now a)
+        × HoldsC (plan .m) (now c)
+        × NodeFactors (plan .m) (plan .n) (now entries) (now rows)
+        × AxisOf plan axis (now waypoints)
+        × (plan .m + plan .m ≤ length (now boundary))
+        × (length (now side) ≡ plan .m)
+        × (plan .n * plan .m ≤ length (now solved)) ⌝ }
+    ensures { λ x. ⌜ (let w = waypointsOf plan (now (waypoints .entry)) axis in
+        let first = firstOf (plan .m) (now (boundary .entry)) in
+        let last = lastOf (plan .m) (now (boundary .entry)) in
+        now (solved .exit)
+        ≡ joined (plan .n) (solvedSide (plan .m) (plan .n) w first last) ++ drop (plan .n * plan .m) (now (solved .entry))) ⌝ }
 {
+    let m = plan.m;
+    let n = plan.n;
+    let axes = plan.axes;
     let mut dy_prev = dy(axes, waypoints, axis, 0);
     let mut i = 0;
     while i < n {
         let dy_next = dy(axes, waypoints, axis, i + 1);
-        full_side(m, n, r, a, c, dy_prev, dy_next, boundary, i, solved, side);
+        full_side(plan, r, a, c, dy_prev, dy_next, boundary, i, solved, side);
         solve_node(m, i, entries, rows, side, solved);
         dy_prev = dy_next;
         i += 1;
@@ -133,8 +176,12 @@ fn forward_sweep(
 // "Back: u = solved right side − solved C · next u", at inner node i. The next node's numbers are copied, since
 // two parts of one list are not lent at a time.
 fn back_step(m: usize, solved_c: &[f64], i: usize, next: &mut [f64], solved: &mut [f64])
-    requires { ⌜ (1 ≤ m) × NodeSolved m (i + 1) (now «solved_c») × (length (now next) ≡ m) × ((i + 2) * m ≤ length (now solved)) ⌝ }
-    ensures { λ x. ⌜ now (solved .exit) ≡ put m i (minus m (part m (now (solved .entry)) i) (times m (solvedC m i) (part m (now (solved .entry)) (i + 1)))) (now (solved .entry)) ⌝ }
+    requires { ⌜ (1 ≤ m)
+        × NodeSolved m (i + 1) (now «solved_c»)
+        × (length (now next) ≡ m)
+        × ((i + 2) * m ≤ length (now solved)) ⌝ }
+    ensures { λ x. ⌜ (let before = now (solved .entry) in
+        now (solved .exit) ≡ put m i (minus m (part m before i) (times m (solvedC m i) (part m before (i + 1)))) before) ⌝ }
 {
     let at = i * (m * m);
     let row = i * m;
@@ -150,8 +197,13 @@ fn back_step(m: usize, solved_c: &[f64], i: usize, next: &mut [f64], solved: &mu
 
 // The numbers of all n inner nodes, from the last but one back to the first, in the place of the solved right sides.
 fn back_sweep(m: usize, n: usize, solved_c: &[f64], next: &mut [f64], solved: &mut [f64])
-    requires { ⌜ (1 ≤ m) × NodeSolved m n (now «solved_c») × (length (now next) ≡ m) × (n * m ≤ length (now solved)) ⌝ }
-    ensures { λ x. ⌜ ((w start end : List Float) → take (n * m) (now (solved .entry)) ≡ joined n (solvedSide m n w start end) → now (solved .exit) ≡ joined n (λ j. innerNumbers m n w start end j (n - suc j)) ++ drop (n * m) (now (solved .entry))) ⌝ }
+    requires { ⌜ (1 ≤ m)
+        × NodeSolved m n (now «solved_c»)
+        × (length (now next) ≡ m)
+        × (n * m ≤ length (now solved)) ⌝ }
+    ensures { λ x. ⌜ ((w start end : List Float)
+        → take (n * m) (now (solved .entry)) ≡ joined n (solvedSide m n w start end)
+        → now (solved .exit) ≡ joined n (λ j. innerNumbers m n w start end j (n - suc j)) ++ drop (n * m) (now (solved .entry))) ⌝ }
 {
     let mut i = n;
     while 1 < i {
@@ -162,19 +214,26 @@ fn back_sweep(m: usize, n: usize, solved_c: &[f64], next: &mut [f64], solved: &m
 
 // The n + 1 segments.
 fn write_segments<'a>(
-    m: usize,
-    n: usize,
+    plan: Plan,
     h_coeff: &[f64],
-    axes: usize,
     waypoints: &[f64],
     axis: usize,
     boundary: &'a [f64],
     solved: &'a [f64],
     chunk: &mut [f64],
 )
-    requires { ⌜ UpperTable m (now «h_coeff») × AxisOf (n + 2) axes axis (now waypoints) × (length (now boundary) ≡ m + m) × (n * m ≤ length (now solved)) × (length (now chunk) ≡ (n + 1) * (2 * m + 2)) ⌝ }
-    ensures { λ x. ⌜ now (chunk .exit) ≡ joined (n + 1) (segmentOf m n (axisPoints (n + 2) axes (now (waypoints .entry)) axis) (now (boundary .entry)) (now (solved .entry))) ⌝ }
+    requires { ⌜ (1 ≤ plan .m)
+        × HoldsH (plan .m) (now «h_coeff»)
+        × AxisOf plan axis (now waypoints)
+        × (plan .m + plan .m ≤ length (now boundary))
+        × (plan .n * plan .m ≤ length (now solved))
+        × (length (now chunk) ≡ (plan .n + 1) * (2 * plan .m + 2)) ⌝ }
+    ensures { λ x. ⌜ now (chunk .exit)
+        ≡ joined (plan .n + 1) (segmentOf (plan .m) (plan .n) (waypointsOf plan (now (waypoints .entry)) axis) (now (boundary .entry)) (now (solved .entry))) ⌝ }
 {
+    let m = plan.m;
+    let n = plan.n;
+    let axes = plan.axes;
     let width = 2 * m + 2;
     let mut i = 0;
     while i < n + 1 {
@@ -193,49 +252,60 @@ fn write_segments<'a>(
 }
 
 // An axis's coefficients, from its waypoints, the 2m numbers of its first and last node, and the nodes' factored
-// matrices. `side` has room for the numbers of one node, and `solved` for those of the inner nodes.
+// matrices. `solved` has room for the numbers of the inner nodes.
 pub fn thomas_row(
-    m: usize,
-    n: usize,
-    r: &[f64],
-    a: &[f64],
-    c: &[f64],
-    h_coeff: &[f64],
+    plan: Plan,
+    tables: BlockMatrices,
     entries: &[f64],
     rows: &[usize],
     solved_c: &[f64],
-    axes: usize,
     waypoints: &[f64],
     axis: usize,
     boundary: &[f64],
-    side: &mut [f64],
     solved: &mut [f64],
     chunk: &mut [f64],
 )
-    requires { ⌜ SideTables m (now r) (now a) (now c) × UpperTable m (now «h_coeff») × NodeFactors m n (now entries) (now rows) × NodeSolved m n (now «solved_c») × AxisOf (n + 2) axes axis (now waypoints) × (length (now boundary) ≡ m + m) × (length (now side) ≡ m) × (n * m ≤ length (now solved)) × (length (now chunk) ≡ (n + 1) * (2 * m + 2)) ⌝ }
-    ensures { λ x. ⌜ now (chunk .exit) ≡ axisCoefficients m n (axisPoints (n + 2) axes (now (waypoints .entry)) axis) (take m (now (boundary .entry))) (take m (drop m (now (boundary .entry)))) ⌝ }
+    requires { ⌜ (1 ≤ plan .m)
+        × (plan .m ≤ 3)
+        × Matrices (plan .m) tables
+        × NodeFactors (plan .m) (plan .n) (now entries) (now rows)
+        × NodeSolved (plan .m) (plan .n) (now «solved_c»)
+        × AxisOf plan axis (now waypoints)
+        × (plan .m + plan .m ≤ length (now boundary))
+        × (plan .n * plan .m ≤ length (now solved))
+        × (length (now chunk) ≡ (plan .n + 1) * (2 * plan .m + 2)) ⌝ }
+    ensures { λ x. ⌜ (let w = waypointsOf plan (now (waypoints .entry)) axis in
+        let first = firstOf (plan .m) (now (boundary .entry)) in
+        let last = lastOf (plan .m) (now (boundary .entry)) in
+        now (chunk .exit) ≡ axisCoefficients (plan .m) (plan .n) w first last) ⌝ }
 {
+    let m = plan.m;
+    let n = plan.n;
+    let a = tables.a;
+    let c = tables.c;
+    let r = tables.r;
+    let h_coeff = tables.h_coeff;
+    let mm = m * m;
+    let width = (m + 1) * (1 + 2 * m);
+    let mut side = [0.0; 3];
     forward_sweep(
-        m,
-        n,
-        r,
-        a,
-        c,
+        plan,
+        &r[0..m * 2],
+        &a[0..mm],
+        &c[0..mm],
         entries,
         rows,
-        axes,
         waypoints,
         axis,
         boundary,
-        side,
+        &mut side[0..m],
         solved,
     );
-    back_sweep(m, n, solved_c, side, solved);
+    let mut next = [0.0; 3];
+    back_sweep(m, n, solved_c, &mut next[0..m], solved);
     write_segments(
-        m,
-        n,
-        h_coeff,
-        axes,
+        plan,
+        &h_coeff[0..width],
         waypoints,
         axis,
         boundary,

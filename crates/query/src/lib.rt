@@ -5,7 +5,7 @@ ghost use mathlib.Core.Bool.{true, cond};
 ghost use Prim.Native.Nat.{_<_};
 ghost use lib.ListN.{length, set};
 ghost use Rattle.rules.specs.Query.{writes, buffers, lengthsOf, Queried};
-ghost use Rattle.questions.specs.Input.{queryOf};
+ghost use Rattle.rules.specs.Query.{queryOf};
 ghost use Rattle.query.specs.Axes.{Evaluable, Evaluated};
 use lookup::segment_tau;
 use poly::eval_poly;

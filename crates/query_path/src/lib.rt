@@ -3,7 +3,7 @@
 // a struct that holds a reference, so each is proved by hand; whoever calls `eval_path` needs no such proof.
 ghost use mathlib.Core.Path.{_≡_};
 ghost use Rattle.rules.specs.Query.{buffers, Queried};
-ghost use Rattle.questions.specs.Input.{queryOf};
+ghost use Rattle.rules.specs.Query.{queryOf};
 use rules::PathParam;
 use rules::PathRecord;
 

@@ -3,7 +3,7 @@
 use mathlib.Core.Path.{_≡_, _∙_}
 use mathlib.Core.Bool.{true, false}
 use mathlib.Core.List.{List, []}
-use Prim.Native.Nat.{ℕ}
+use Prim.Native.Nat.{ℕ, _-_}
 use borrow.Author.Tests.{ne-eqb}
 use lib.ListN.{length}
 use lib.Ieee.{Float}
@@ -20,12 +20,12 @@ module _ (b : BuildInput) (cells : ℕ) where
 
   module _ (e : firstNo (inputQuestions b cells) ≡ 0) where
     -- none of them does, and the last does
-    pub pivot-number : everyPivot (mOf (b .config .order)) (b .points) ≡ false → buildNumber b cells ≡ 307
+    pub pivot-number : everyPivot (mOf (b .config .order)) (b .points - 2) ≡ false → buildNumber b cells ≡ 307
     unfolding buildNumber buildQuestions inputQuestions pivotQuestions
     pivot-number p = first-yes (inputQuestions b cells) (pivotQuestions b) tt e ∙ no-to _ p
 
     -- none of all does
-    pub yes-number : everyPivot (mOf (b .config .order)) (b .points) ≡ true → buildNumber b cells ≡ 0
+    pub yes-number : everyPivot (mOf (b .config .order)) (b .points - 2) ≡ true → buildNumber b cells ≡ 0
     unfolding buildNumber buildQuestions inputQuestions pivotQuestions firstNo
     yes-number p = first-yes (inputQuestions b cells) (pivotQuestions b) tt e ∙ yes-to 307 [] p
 

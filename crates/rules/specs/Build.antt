@@ -18,7 +18,7 @@ use Rattle.rules.specs.Questions.{Question, ask, firstNo}
 use Rattle.rules.specs.Tables.{mOf, A, C, R, H}
 use Rattle.rules.specs.Solve.{entry, times, minus, solve, nonzeroPivots, nodeFactors, solvedC}
 
--- What a build is given, the coefficient buffer aside. "Waypoints are column-major, axes by points"; so are the numbers of a state, axes by m.
+-- What a build is given, the coefficient buffer aside.
 pub record BuildInput : Type 0 where
   pub config : SplineConfig
   pub points : ℕ
@@ -26,6 +26,13 @@ pub record BuildInput : Type 0 where
   pub waypoints : List Float
   pub start : List Float
   pub end : List Float
+
+abbrev pub inputOf : SplineConfig → ℕ → ℕ → List Float → List Float → List Float → BuildInput
+inputOf config points axes waypoints start end = record { config = config; points = points; axes = axes; waypoints = waypoints; start = start; end = end }
+
+-- "Waypoints are column-major, axes by points"; so are the numbers of a state, axes by m: an axis's number in column k
+abbrev pub ofAxis : ℕ → List Float → ℕ → ℕ → Float
+ofAxis axes xs axis k = xs ! (k * axes + axis)
 
 -- ---- questions before a build
 
@@ -60,9 +67,9 @@ unfoldable pub finiteState : BoundaryState → List Float → Bool
 finiteState None numbers = true
 finiteState (Given rows columns perUnit) numbers = all finite numbers
 
--- 10. "Is every pivot other than zero?": of the matrix at each inner node, which is a point between the first and the last
+-- 10. "Is every pivot other than zero?": of the matrix at each of n inner nodes, which are the points between the first and the last
 unfoldable pub everyPivot : ℕ → ℕ → Bool
-everyPivot m points = every (points - 2) (λ i. nonzeroPivots m (nodeFactors m i))
+everyPivot m n = every n (λ i. nonzeroPivots m (nodeFactors m i))
 
 -- the questions about what a build is given, into a buffer of so many cells, in order
 unfoldable pub inputQuestions : BuildInput → ℕ → List Question
@@ -83,7 +90,7 @@ inputQuestions b cells =
 
 -- about what factoring finds
 unfoldable pub pivotQuestions : BuildInput → List Question
-pivotQuestions b = ask (everyPivot (mOf (b .config .order)) (b .points)) 307 ∷ []  -- 10
+pivotQuestions b = ask (everyPivot (mOf (b .config .order)) (b .points - 2)) 307 ∷ []  -- 10
 
 -- all questions before a build
 unfoldable pub buildQuestions : BuildInput → ℕ → List Question
@@ -186,14 +193,14 @@ divided (suc k) x by = divided k x by ⊘ by
 unfoldable pub boundaryNumber : ℕ → Float → BoundaryState → List Float → ℕ → ℕ → Float
 boundaryNumber axes inv None numbers axis r = +0
 boundaryNumber axes inv (Given rows columns perUnit) numbers axis r =
-    let x = numbers ! (r * axes + axis) in
+    let x = ofAxis axes numbers axis r in
     cond perUnit (divided (r + 1) x inv) x
 
 -- ---- the table
 
 -- an axis's waypoints
 unfoldable pub axisWaypoints : BuildInput → ℕ → List Float
-axisWaypoints b axis = listed (b .points) (λ p. b .waypoints ! (p * b .axes + axis))
+axisWaypoints b axis = listed (b .points) (ofAxis (b .axes) (b .waypoints) axis)
 
 -- an axis's m numbers of a state
 unfoldable pub axisState : BuildInput → BoundaryState → List Float → ℕ → List Float

@@ -27,6 +27,9 @@ pub record QueryInput : Type 0 where
   pub s : PathParam
   pub level : ℕ
 
+abbrev pub queryOf : PathRecord → List Float → PathParam → ℕ → QueryInput
+queryOf path coefficients s level = record { path = path; coefficients = coefficients; s = s; level = level }
+
 -- The lengths of the four buffers.
 pub record Lengths : Type 0 where
   pub q : ℕ

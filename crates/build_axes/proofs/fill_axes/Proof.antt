@@ -1,15 +1,18 @@
--- `build_axes::fill_axes` meets its contract. The loop's invariant: the buffer has the coefficients of the first axes, and its own cells behind them. Assumes nothing.
-use mathlib.Core.Path.{_≡_, refl, ap, _∙_}
+-- `build_axes::fill_axes` meets its contract. The loop's invariant: the buffer has the coefficients of the first axes, and its own cells behind them.
+-- Assumes nothing.
+use mathlib.Core.Path.{_≡_, refl, ap, ap₂, _∙_}
 use Prim.Native.Nat.{ℕ, _+_, _-_, _*_, _≤_}
 use native.Mathlib.Omega.{arith}
 use lib.ListN.{length}
+use Rattle.rules.specs.Build.{axisCoefficients}
 use Rattle.rules.proofs.Lists.{length-listed, part-inside}
 use Rattle.rules.proofs.Build.{length-axis}
 use Rattle.rules.proofs.Cells.{next-part}
 use Rattle.rules.proofs.Parts.{Parted, none, kept, step, whole}
-use Rattle.build_axes.specs.declared.Plan.{Plan}
-use Rattle.build_axes.specs.Axes.{axisTable}
 use Rattle.rules.proofs.Lent.{part-size, part-length}
+use Rattle.build_segments.specs.declared.Plan.{Plan}
+use Rattle.build_thomas.specs.Axis.{waypointsOf}
+use Rattle.build_axes.specs.AllAxes.{axisTable}
 use Rattle.build_axes.proofs.Sizes.{stride-small, table-small}
 use borrow.Author.Needs.{needs}
 use Rattle.build_axes.proofs.fill_axes.Statement.{statement}
@@ -38,19 +41,22 @@ entry c = first (c .before)
 abbrev start : tie.At-loop Inv-loop μ-loop → tie.Start Inv-loop μ-loop
 start c = entry (c .before)
 
-abbrev lending : tie.After-fill-axis-arg Inv-loop μ-loop → tie.In-loop Inv-loop μ-loop
-lending c = c .before
+abbrev ended : tie.After-thomas-row-arg Inv-loop μ-loop → tie.After-both-ends Inv-loop μ-loop
+ended c = c .before .before .before
 
-abbrev filled : tie.After-slice-known4 Inv-loop μ-loop → tie.After-fill-axis Inv-loop μ-loop
+abbrev turn : tie.After-thomas-row-arg Inv-loop μ-loop → tie.In-loop Inv-loop μ-loop
+turn c = ended c .before .before
+
+abbrev filled : tie.After-slice-known4 Inv-loop μ-loop → tie.After-thomas-row Inv-loop μ-loop
 filled c = c .before .before .before .before
 
-abbrev turn : tie.After-slice-known4 Inv-loop μ-loop → tie.In-loop Inv-loop μ-loop
-turn c = lending (filled c .before .before)
+abbrev lent : tie.After-slice-known4 Inv-loop μ-loop → tie.After-thomas-row-arg Inv-loop μ-loop
+lent c = filled c .before .before
 
 -- ---- how large the numbers are
 
 small : (p : tie.Start Inv-loop μ-loop) → cells (p .args .plan) ≤ 2048
-small p = stride-small (p .args .plan .m) (p .args .plan .n) (p .pre .0 .few) (p .pre .0 .few-nodes)
+small p = stride-small (p .args .plan .m) (p .args .plan .n) (p .pre .0 .given .few) (p .pre .0 .given .few-nodes)
 
 -- an axis's part of the buffer is inside, and the buffer small
 inside : (c : tie.In-loop Inv-loop μ-loop)
@@ -59,7 +65,7 @@ inside : (c : tie.In-loop Inv-loop μ-loop)
 inside c =
     let p = start (c .before) in
     let plan = p .args .plan in
-    (part-inside (cells plan) (c .loop-test .taken), table-small (plan .axes) (cells plan) (p .pre .0 .few-axes) (small p))
+    (part-inside (cells plan) (c .loop-test .taken), table-small (plan .axes) (cells plan) (p .pre .0 .given .few-axes) (small p))
 
 -- ---- the loop
 
@@ -72,24 +78,50 @@ loop-holds c =
       refl,
     )
 
-fill-axis-requires : tie.Need-fill-axis-requires Inv-loop μ-loop
-fill-axis-requires c κs =
-    let at = lending (c .before) .before in
-    let p = start at in
-    let size = cells (p .args .plan) in
+both-ends-requires : tie.Need-both-ends-requires Inv-loop μ-loop
+both-ends-requires c κs =
+    let given = start (c .before .before) .pre .0 .given in
+    (c .before .loop-test .taken, given .start-numbers, given .end-numbers, omega (arith, given .few))
+
+thomas-row-requires : tie.Need-thomas-row-requires Inv-loop μ-loop
+thomas-row-requires c κs =
+    let turned = turn (c .before) in
+    let at = turned .before in
+    let (shared, room, long) = start at .pre in
+    let given = shared .given in
+    let size = cells (start at .args .plan) in
     let coeffs = at .loop .coeffs in (
-      p .pre .0,
-      lending (c .before) .loop-test .taken,
-      omega (arith, at .loop .inv .2, p .pre .1),
+      given .some,
+      given .few,
+      shared .tables,
+      shared .factors,
+      shared .solved,
+      record { few-nodes = given .few-nodes; axis-below = turned .loop-test .taken; waypoints-length = given .waypoints-length },
+      omega (arith, given .few, c .before .before .before .ends2 .given),
+      omega (arith, at .loop .inv .2, room),
       ap length (part-size (at .loop .axis * size) size coeffs)
-          ∙ part-length (at .loop .axis * size) size coeffs (omega (arith, inside (lending (c .before)) .0, kept (at .loop .inv .0), p .pre .2)),
+          ∙ part-length (at .loop .axis * size) size coeffs (omega (arith, inside turned .0, kept (at .loop .inv .0), long)),
     )
+
+-- what a turn leaves for its axis
+made : (c : tie.After-slice-known4 Inv-loop μ-loop)
+    → (let args = start (turn (lent c) .before) .args in
+    filled c .thomas-row .last .1 .1 .1 .1 .1 .1 .1 .1 .1 .0
+    ≡ axisTable (args .plan) (args .waypoints .now) (args .start .now) (args .end .now) (turn (lent c) .before .loop .axis))
+made c =
+    let at = turn (lent c) .before in
+    let args = start at .args in
+    let p = args .plan in
+    let ends = ended (lent c) .both-ends .ensures in
+    filled c .thomas-row .ensures
+    ∙ ap₂ (axisCoefficients (p .m) (p .n) (waypointsOf p (args .waypoints .now) (at .loop .axis))) (ends .first) (ends .last)
 
 loop-again : tie.Need-loop-again Inv-loop μ-loop
 loop-again c =
-    let at = turn c .before in (
-      step (at .loop .inv .0) (filled c .fill-axis .ensures) (rw next-part (omega (arith, inside (turn c) .0, start at .pre .2))),
-      omega (arith, turn c .loop-test .taken),
+    let turned = turn (lent c) in
+    let at = turned .before in (
+      step (at .loop .inv .0) (made c) (rw next-part (omega (arith, inside turned .0, start at .pre .2))),
+      omega (arith, turned .loop-test .taken),
       omega (arith, at .loop .inv .2, c .before .before .before .solved .given),
     )
 
@@ -99,19 +131,22 @@ fill-axes-spec =
     (tie.spec
     Inv-loop
     μ-loop
-    (λ c. omega (arith, first c .pre .0 .few-nodes))
-    (λ c. omega (arith, entry c .pre .0 .few))
-    (λ c. omega (arith, entry c .pre .0 .few))
+    (λ c. omega (arith, first c .pre .0 .given .few-nodes))
+    (λ c. omega (arith, entry c .pre .0 .given .few))
+    (λ c. omega (arith, entry c .pre .0 .given .few))
     (λ c. omega (arith, small (entry c)))
     loop-holds
     (λ c. omega (arith, inside c .0, inside c .1))
-    (λ c. omega (arith, inside (lending c) .0, inside (lending c) .1))
-    (λ c. omega (arith, inside (lending c) .0, inside (lending c) .1))
+    (λ c. search needs)
+    both-ends-requires
+    (λ c. search needs)
+    (λ c. omega (arith, inside (turn c) .0, inside (turn c) .1))
+    (λ c. omega (arith, inside (turn c) .0, inside (turn c) .1))
     (λ c. omega arith)
     (λ c. omega arith)
-    (λ c. omega (arith, inside (lending c) .0, kept (lending c .before .loop .inv .0), start (lending c .before) .pre .2))
-    fill-axis-requires
-    (λ c. omega (arith, turn c .loop-test .taken, start (turn c .before) .pre .0 .few-axes))
+    (λ c. omega (arith, inside (turn c) .0, kept (turn c .before .loop .inv .0), start (turn c .before) .pre .2))
+    thomas-row-requires
+    (λ c. let turned = turn (lent c) in omega (arith, turned .loop-test .taken, start (turned .before) .pre .0 .given .few-axes))
     (λ c. search needs)
     loop-again
     (λ c. c .before .loop .inv .2)

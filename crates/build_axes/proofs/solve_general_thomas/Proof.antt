@@ -1,12 +1,10 @@
 -- `build_axes::solve_general_thomas` meets its contract: the matrices are factored, and the axes filled with them where no pivot is zero. Assumes nothing.
 use mathlib.Core.Path.{refl, sym, _∙_}
-use Prim.Native.Nat.{_*_, _≤_}
 use native.Mathlib.Omega.{arith}
-use lib.ListN.{length}
 use borrow.Author.Tests.{not-true, not-false}
 use Rattle.build_thomas.proofs.Node.{node-factors, node-solved}
-use Rattle.build_segments.proofs.Matrices.{a-room, b-room, c-room, lent}
-use Rattle.build_axes.proofs.Sizes.{matrix-small}
+use Rattle.build_segments.proofs.Matrices.{a-room, b-room, c-room, a-lent, b-lent, c-lent}
+use Rattle.build_thomas.proofs.Sizes.{matrix-small}
 use borrow.Author.Needs.{needs}
 use Rattle.build_axes.proofs.solve_general_thomas.Statement.{statement}
 use Rattle.build_axes.proofs.solve_general_thomas.Tie as tie
@@ -28,21 +26,11 @@ factored c = c .before .before .before .before .before .before .before
 abbrev go-on : tie.After-fill-axes-arg5 → tie.Else1
 go-on c = c .before .before .before .before .before
 
--- the tables have room for an m
-rooms : (p : tie.After-for-order) → let m = start p .args .plan .m in let t = p .for-order .result in
-    (m * m ≤ length (t .a)) × (m * m ≤ length (t .b)) × (m * m ≤ length (t .c))
-rooms p =
-    let m = start p .args .plan .m in
-    let t = p .for-order .result in
-    let h = p .for-order .ensures in
-    (a-room m (t .a) (t .b) (t .c) (t .r) (t .«h_coeff») h, b-room m (t .a) (t .b) (t .c) (t .r) (t .«h_coeff») h, c-room m (t .a) (t .b) (t .c) (t .r) (t .«h_coeff») h)
-
 factor-nodes-requires : tie.Need-factor-nodes-requires
 factor-nodes-requires c κs =
     let p = made (lent-c c) in
-    let t = p .for-order .result in
-    let h = lent (start p .args .plan .m) (t .a) (t .b) (t .c) (t .r) (t .«h_coeff») (p .for-order .ensures) in
-    (record { a-is = h .a-is; b-is = h .b-is; c-is = h .c-is; b-length = h .b-length }, start p .pre .1)
+    let tables = p .for-order .ensures in
+    (a-lent tables, b-lent tables, c-lent tables, start p .pre .2)
 
 returns : tie.Need-returns
 returns c =
@@ -53,22 +41,17 @@ fill-axes-requires : tie.Need-fill-axes-requires
 fill-axes-requires c κs =
     let f = factored (go-on c) in
     let p = made (lent-c (f .before)) in
-    let (ready, room, solved) = start p .pre in
-    let tables = p .for-order .ensures in (
+    let (given, cells, room, solved) = start p .pre in
+    let tables = p .for-order .ensures in
+    let size = tables .b .sized in (
       record {
-        some = ready .some;
-        few = ready .few;
-        few-nodes = ready .few-nodes;
-        few-axes = ready .few-axes;
+        given = given;
         tables = tables;
-        factors = node-factors room (tables .b-length) (f .factor-nodes .ensures .1) (f .factor-nodes .ensures .2);
-        solved = node-solved room (tables .b-length) (f .factor-nodes .ensures .3);
-        waypoints-length = ready .waypoints-length;
-        start-numbers = ready .start-numbers;
-        end-numbers = ready .end-numbers;
+        factors = node-factors room size (f .factor-nodes .ensures .1) (f .factor-nodes .ensures .2);
+        solved = node-solved room size (f .factor-nodes .ensures .3);
       },
       solved,
-      ready .coeffs-length,
+      cells,
     )
 
 returns-2 : tie.Need-returns-2
@@ -86,13 +69,13 @@ solve-general-thomas-spec =
     (λ c. let p = start (made c) in omega (arith, matrix-small (p .args .plan .m) (p .pre .0 .few)))
     (λ c. search needs)
     (λ c. search needs)
-    (λ c. rooms (made (c .before)) .0)
+    (λ c. a-room (made (c .before) .for-order .ensures))
     (λ c. search needs)
     (λ c. search needs)
-    (λ c. rooms (made (c .before .before .before)) .1)
+    (λ c. b-room (made (c .before .before .before) .for-order .ensures))
     (λ c. search needs)
     (λ c. search needs)
-    (λ c. rooms (made (c .before .before .before .before .before)) .2)
+    (λ c. c-room (made (c .before .before .before .before .before) .for-order .ensures))
     factor-nodes-requires
     (λ c. search needs)
     (λ c. search needs)

@@ -22,32 +22,11 @@ abbrev μ-loop : tie.MeasureT-loop
 inside : (c : tie.Start Inv-loop μ-loop) → let m = c .args .m in c .args .k * m + m ≤ m * m
 inside c = part-inside (c .args .m) (c .pre .0)
 
-mul-reciprocal : tie.Need-mul-reciprocal Inv-loop μ-loop
-mul-reciprocal c = omega (arith, inside (c .before))
-
-add-reciprocal : tie.Need-add-reciprocal Inv-loop μ-loop
-add-reciprocal c = omega (arith, inside (c .before))
-
-mul-reciprocal-2 : tie.Need-mul-reciprocal-2 Inv-loop μ-loop
-mul-reciprocal-2 c = omega (arith, inside (c .before))
-
-slice-read-reciprocal : tie.Need-slice-read-reciprocal Inv-loop μ-loop
-slice-read-reciprocal c = omega (arith, inside (c .before .before))
-
-add-i : tie.Need-add-i Inv-loop μ-loop
-add-i c = omega arith
-
 loop-holds : tie.Need-loop-holds Inv-loop μ-loop
 loop-holds c = let s = c .before .before in (omega arith, omega arith, s .pre .1, elimination-start _ _ _ _ (s .pre .0) (s .pre .1))
 
 eliminate-row-requires : tie.Need-eliminate-row-requires Inv-loop μ-loop
 eliminate-row-requires c κs = (omega arith, omega arith, c .before .before .loop .inv .2)
-
-add-i-2 : tie.Need-add-i-2 Inv-loop μ-loop
-add-i-2 c = omega arith
-
-loop-less : tie.Need-loop-less Inv-loop μ-loop
-loop-less c = omega arith
 
 loop-again : tie.Need-loop-again Inv-loop μ-loop
 loop-again c =
@@ -76,15 +55,15 @@ eliminate-spec =
     (tie.spec
     Inv-loop
     μ-loop
-    mul-reciprocal
-    add-reciprocal
-    mul-reciprocal-2
-    slice-read-reciprocal
-    add-i
+    (λ c. omega (arith, inside (c .before)))
+    (λ c. omega (arith, inside (c .before)))
+    (λ c. omega (arith, inside (c .before)))
+    (λ c. omega (arith, inside (c .before .before)))
+    (λ c. omega arith)
     loop-holds
     eliminate-row-requires
-    add-i-2
-    loop-less
+    (λ c. omega arith)
+    (λ c. omega arith)
     loop-again
     same-length
     returns)

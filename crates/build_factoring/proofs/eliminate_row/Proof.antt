@@ -21,77 +21,8 @@ abbrev μ-loop : tie.MeasureT-loop
 inside : (c : tie.Start Inv-loop μ-loop) → let m = c .args .m in c .args .i * m + m ≤ m * m
 inside c = part-inside (c .args .m) (c .pre .1)
 
-mul-multiplier : tie.Need-mul-multiplier Inv-loop μ-loop
-mul-multiplier c = omega (arith, inside c)
-
-add-multiplier : tie.Need-add-multiplier Inv-loop μ-loop
-add-multiplier c = omega (arith, inside c)
-
-mul-multiplier-2 : tie.Need-mul-multiplier-2 Inv-loop μ-loop
-mul-multiplier-2 c = omega (arith, inside c)
-
-slice-read-multiplier : tie.Need-slice-read-multiplier Inv-loop μ-loop
-slice-read-multiplier c = omega (arith, inside (c .before))
-
-mul-a : tie.Need-mul-a Inv-loop μ-loop
-mul-a c = omega (arith, inside (c .before))
-
-add-a : tie.Need-add-a Inv-loop μ-loop
-add-a c = omega (arith, inside (c .before))
-
-mul-a-2 : tie.Need-mul-a-2 Inv-loop μ-loop
-mul-a-2 c = omega (arith, inside (c .before))
-
-slice-write-a : tie.Need-slice-write-a Inv-loop μ-loop
-slice-write-a c = omega (arith, inside (c .before))
-
-add-j : tie.Need-add-j Inv-loop μ-loop
-add-j c = omega arith
-
 loop-holds : tie.Need-loop-holds Inv-loop μ-loop
 loop-holds c = (omega arith, omega arith, inside (c .before), part-inside _ (omega arith), simp length-set (c .before .pre .2), λ b n w e. e)
-
-mul-a-3 : tie.Need-mul-a-3 Inv-loop μ-loop
-mul-a-3 c = omega arith
-
-add-a-2 : tie.Need-add-a-2 Inv-loop μ-loop
-add-a-2 c = omega arith
-
-mul-a-4 : tie.Need-mul-a-4 Inv-loop μ-loop
-mul-a-4 c = omega arith
-
-slice-read-a : tie.Need-slice-read-a Inv-loop μ-loop
-slice-read-a c = omega arith
-
-mul-a-5 : tie.Need-mul-a-5 Inv-loop μ-loop
-mul-a-5 c = omega arith
-
-add-a-3 : tie.Need-add-a-3 Inv-loop μ-loop
-add-a-3 c = omega arith
-
-mul-a-6 : tie.Need-mul-a-6 Inv-loop μ-loop
-mul-a-6 c = omega arith
-
-slice-read-a-2 : tie.Need-slice-read-a-2 Inv-loop μ-loop
-slice-read-a-2 c = omega arith
-
-mul-a-7 : tie.Need-mul-a-7 Inv-loop μ-loop
-mul-a-7 c = omega arith
-
-add-a-4 : tie.Need-add-a-4 Inv-loop μ-loop
-add-a-4 c = omega arith
-
-mul-a-8 : tie.Need-mul-a-8 Inv-loop μ-loop
-mul-a-8 c = omega arith
-
-slice-write-a-2 : tie.Need-slice-write-a-2 Inv-loop μ-loop
-slice-write-a-2 c = omega arith
-
-add-j-2 : tie.Need-add-j-2 Inv-loop μ-loop
-add-j-2 c = omega arith
-
-loop-less : tie.Need-loop-less Inv-loop μ-loop
-loop-less c = omega arith
 
 loop-again : tie.Need-loop-again Inv-loop μ-loop
 loop-again c =
@@ -126,30 +57,30 @@ eliminate-row-spec =
     (tie.spec
     Inv-loop
     μ-loop
-    mul-multiplier
-    add-multiplier
-    mul-multiplier-2
-    slice-read-multiplier
-    mul-a
-    add-a
-    mul-a-2
-    slice-write-a
-    add-j
+    (λ c. omega (arith, inside c))
+    (λ c. omega (arith, inside c))
+    (λ c. omega (arith, inside c))
+    (λ c. omega (arith, inside (c .before)))
+    (λ c. omega (arith, inside (c .before)))
+    (λ c. omega (arith, inside (c .before)))
+    (λ c. omega (arith, inside (c .before)))
+    (λ c. omega (arith, inside (c .before)))
+    (λ c. omega arith)
     loop-holds
-    mul-a-3
-    add-a-2
-    mul-a-4
-    slice-read-a
-    mul-a-5
-    add-a-3
-    mul-a-6
-    slice-read-a-2
-    mul-a-7
-    add-a-4
-    mul-a-8
-    slice-write-a-2
-    add-j-2
-    loop-less
+    (λ c. omega arith)
+    (λ c. omega arith)
+    (λ c. omega arith)
+    (λ c. omega arith)
+    (λ c. omega arith)
+    (λ c. omega arith)
+    (λ c. omega arith)
+    (λ c. omega arith)
+    (λ c. omega arith)
+    (λ c. omega arith)
+    (λ c. omega arith)
+    (λ c. omega arith)
+    (λ c. omega arith)
+    (λ c. omega arith)
     loop-again
     same-length
     returns)

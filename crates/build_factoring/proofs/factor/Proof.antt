@@ -37,12 +37,6 @@ exchange-rows-requires c κs = (omega arith, omega arith)
 eliminate-requires : tie.Need-eliminate-requires Inv-loop μ-loop
 eliminate-requires c κs = (omega arith, omega arith)
 
-add-k : tie.Need-add-k Inv-loop μ-loop
-add-k c = omega arith
-
-loop-less : tie.Need-loop-less Inv-loop μ-loop
-loop-less c = omega arith
-
 loop-again : tie.Need-loop-again Inv-loop μ-loop
 loop-again c =
     let eliminated = c .before .before in
@@ -60,12 +54,6 @@ loop-again c =
 
 nonzero-pivots-requires : tie.Need-nonzero-pivots-requires Inv-loop μ-loop
 nonzero-pivots-requires c κs = c .before .before .loop .inv .1
-
-same-length : tie.Need-same-length Inv-loop μ-loop
-same-length c = omega arith
-
-same-length-2 : tie.Need-same-length-2 Inv-loop μ-loop
-same-length-2 c = omega arith
 
 returns : tie.Need-returns Inv-loop μ-loop
 unfolding factor nonzeroPivots
@@ -91,10 +79,10 @@ factor-spec =
     exchange-entries-requires
     exchange-rows-requires
     eliminate-requires
-    add-k
-    loop-less
+    (λ c. omega arith)
+    (λ c. omega arith)
     loop-again
     nonzero-pivots-requires
-    same-length
-    same-length-2
+    (λ c. omega arith)
+    (λ c. omega arith)
     returns)

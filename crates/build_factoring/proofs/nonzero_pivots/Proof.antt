@@ -30,30 +30,12 @@ loop-holds : tie.Need-loop-holds Inv-loop μ-loop
 unfolding every
 loop-holds c = (omega arith, refl)
 
-mul-if1 : tie.Need-mul-if1 Inv-loop μ-loop
-mul-if1 c = omega (arith, inside c)
-
-add-if1 : tie.Need-add-if1 Inv-loop μ-loop
-add-if1 c = omega (arith, inside c)
-
-mul-if1-2 : tie.Need-mul-if1-2 Inv-loop μ-loop
-mul-if1-2 c = omega (arith, inside c)
-
-shared-slice-read-if1 : tie.Need-shared-slice-read-if1 Inv-loop μ-loop
-shared-slice-read-if1 c = omega (arith, inside (c .before))
-
 returns : tie.Need-returns Inv-loop μ-loop
 unfolding nonzeroPivots ofBits
 returns c =
     let s = c .before .before .before .before in
     let h = c .before .before .loop-test .taken in
     every-fails _ _ _ h (pivot-test (s .args .m) (s .args .a .now) _ _ (s .pre) h (c .if1 .taken))
-
-add-k : tie.Need-add-k Inv-loop μ-loop
-add-k c = omega arith
-
-loop-less : tie.Need-loop-less Inv-loop μ-loop
-loop-less c = omega arith
 
 loop-again : tie.Need-loop-again Inv-loop μ-loop
 unfolding ofBits
@@ -75,12 +57,12 @@ nonzero-pivots-spec =
     Inv-loop
     μ-loop
     loop-holds
-    mul-if1
-    add-if1
-    mul-if1-2
-    shared-slice-read-if1
+    (λ c. omega (arith, inside c))
+    (λ c. omega (arith, inside c))
+    (λ c. omega (arith, inside c))
+    (λ c. omega (arith, inside (c .before)))
     returns
-    add-k
-    loop-less
+    (λ c. omega arith)
+    (λ c. omega arith)
     loop-again
     returns-2)

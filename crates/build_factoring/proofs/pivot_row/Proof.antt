@@ -27,48 +27,15 @@ inside c =
     let m = start .args .m in
     (cell-inside m (omega arith) (start .pre .0), cell-inside m (c .loop-test .taken) (start .pre .0))
 
-add-next : tie.Need-add-next Inv-loop μ-loop
-add-next c = omega arith
-
 loop-holds : tie.Need-loop-holds Inv-loop μ-loop
 unfolding pivotRow
 loop-holds c = (omega arith, omega arith, omega arith, omega arith, let e : c .before .args .k + 1 - suc (c .before .args .k) ≡ 0 = omega arith in rw e)
 
-mul-magnitude : tie.Need-mul-magnitude Inv-loop μ-loop
-mul-magnitude c = omega (arith, inside c .0)
-
-add-magnitude : tie.Need-add-magnitude Inv-loop μ-loop
-add-magnitude c = omega (arith, inside c .0)
-
-mul-magnitude-2 : tie.Need-mul-magnitude-2 Inv-loop μ-loop
-mul-magnitude-2 c = omega (arith, inside c .0)
-
-shared-slice-read-magnitude : tie.Need-shared-slice-read-magnitude Inv-loop μ-loop
-shared-slice-read-magnitude c = omega (arith, inside (c .before) .0)
-
 magnitude-requires : tie.Need-magnitude-requires Inv-loop μ-loop
 magnitude-requires c κs = tt
 
-mul-magnitude-3 : tie.Need-mul-magnitude-3 Inv-loop μ-loop
-mul-magnitude-3 c = omega (arith, inside (c .before .before) .1)
-
-add-magnitude-2 : tie.Need-add-magnitude-2 Inv-loop μ-loop
-add-magnitude-2 c = omega (arith, inside (c .before .before) .1)
-
-mul-magnitude-4 : tie.Need-mul-magnitude-4 Inv-loop μ-loop
-mul-magnitude-4 c = omega (arith, inside (c .before .before) .1)
-
-shared-slice-read-magnitude-2 : tie.Need-shared-slice-read-magnitude-2 Inv-loop μ-loop
-shared-slice-read-magnitude-2 c = omega (arith, inside (c .before .before .before) .1)
-
 magnitude-requires-2 : tie.Need-magnitude-requires-2 Inv-loop μ-loop
 magnitude-requires-2 c κs = tt
-
-add-next-2 : tie.Need-add-next-2 Inv-loop μ-loop
-add-next-2 c = omega arith
-
-loop-less : tie.Need-loop-less Inv-loop μ-loop
-loop-less c = omega arith
 
 loop-again : tie.Need-loop-again Inv-loop μ-loop
 loop-again c =
@@ -94,19 +61,19 @@ pivot-row-spec =
     (tie.spec
     Inv-loop
     μ-loop
-    add-next
+    (λ c. omega arith)
     loop-holds
-    mul-magnitude
-    add-magnitude
-    mul-magnitude-2
-    shared-slice-read-magnitude
+    (λ c. omega (arith, inside c .0))
+    (λ c. omega (arith, inside c .0))
+    (λ c. omega (arith, inside c .0))
+    (λ c. omega (arith, inside (c .before) .0))
     magnitude-requires
-    mul-magnitude-3
-    add-magnitude-2
-    mul-magnitude-4
-    shared-slice-read-magnitude-2
+    (λ c. omega (arith, inside (c .before .before) .1))
+    (λ c. omega (arith, inside (c .before .before) .1))
+    (λ c. omega (arith, inside (c .before .before) .1))
+    (λ c. omega (arith, inside (c .before .before .before) .1))
     magnitude-requires-2
-    add-next-2
-    loop-less
+    (λ c. omega arith)
+    (λ c. omega arith)
     loop-again
     returns)

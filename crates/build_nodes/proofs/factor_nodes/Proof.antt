@@ -8,8 +8,9 @@ use native.Mathlib.Omega.{arith}
 use borrow.Author.Needs.{needs}
 use Rattle.rules.specs.Lists.{every}
 use Rattle.rules.specs.Solve.{nonzeroPivots, nodeFactors, solvedC}
-use Rattle.build_block.specs.Kept.{transposed}
-use Rattle.build_nodes.specs.Kept.{nodeEntries, nodeRows, nodeSolved}
+use Rattle.rules.specs.Build.{everyPivot}
+use Rattle.build_block.specs.Columns.{transposed}
+use Rattle.build_nodes.specs.NodeLists.{nodeEntries, nodeRows, nodeSolved}
 use Rattle.rules.proofs.Lists.{part-inside, every-more}
 use Rattle.rules.proofs.Cells.{next-part}
 use Rattle.build_nodes.proofs.Nodes.{length-entries, length-node-rows, length-solved}
@@ -46,49 +47,7 @@ unfolding every
 loop-holds c =
     let start = c .before .before .before .before .before .before in
     let m = start .args .m in
-    (omega arith, refl, none _ _ _ (length-entries m (start .pre .0 .b-length)), none _ _ _ (length-node-rows m), none _ _ _ (length-solved m))
-
-mul-at : tie.Need-mul-at Inv-loop μ-loop
-mul-at c = omega (arith, inside c .0)
-
-mul-at-2 : tie.Need-mul-at-2 Inv-loop μ-loop
-mul-at-2 c = omega (arith, inside c .0)
-
-mul-row : tie.Need-mul-row Inv-loop μ-loop
-mul-row c = omega (arith, inside c .1)
-
-mul-factor-node : tie.Need-mul-factor-node Inv-loop μ-loop
-mul-factor-node c = omega (arith, inside c .0)
-
-add-factor-node : tie.Need-add-factor-node Inv-loop μ-loop
-add-factor-node c = omega (arith, inside c .0)
-
-mul-factor-node-2 : tie.Need-mul-factor-node-2 Inv-loop μ-loop
-mul-factor-node-2 c = omega (arith, inside c .0)
-
-sub-factor-node : tie.Need-sub-factor-node Inv-loop μ-loop
-sub-factor-node c = search needs
-
-part-factor-node-start : tie.Need-part-factor-node-start Inv-loop μ-loop
-part-factor-node-start c = search needs
-
-part-factor-node-end : tie.Need-part-factor-node-end Inv-loop μ-loop
-part-factor-node-end c = omega (arith, inside c .0, kept (c .before .loop .inv .2))
-
-add-factor-node-2 : tie.Need-add-factor-node-2 Inv-loop μ-loop
-add-factor-node-2 c = omega (arith, inside (c .before) .1)
-
-mul-factor-node-3 : tie.Need-mul-factor-node-3 Inv-loop μ-loop
-mul-factor-node-3 c = omega (arith, inside (c .before) .1)
-
-sub-factor-node-2 : tie.Need-sub-factor-node-2 Inv-loop μ-loop
-sub-factor-node-2 c = search needs
-
-part-factor-node-start-2 : tie.Need-part-factor-node-start-2 Inv-loop μ-loop
-part-factor-node-start-2 c = search needs
-
-part-factor-node-end-2 : tie.Need-part-factor-node-end-2 Inv-loop μ-loop
-part-factor-node-end-2 c = omega (arith, inside (c .before) .1, kept (c .before .before .loop .inv .3))
+    (omega arith, refl, none _ _ _ (length-entries m (start .pre .1 .sized)), none _ _ _ (length-node-rows m), none _ _ _ (length-solved m))
 
 factor-node-requires : tie.Need-factor-node-requires Inv-loop μ-loop
 unfolding nodeSolved
@@ -99,17 +58,13 @@ factor-node-requires c κs =
     let m = start .args .m in
     let solved = at-loop .loop .inv .4 in (
       start .pre .0,
+      start .pre .1,
+      start .pre .2,
       omega (arith, c .before .before .factor-node-arg .given .2),
       omega (arith, c .before .factor-node-arg2 .given .2),
       omega (arith, inside turn .0, next-part (m * m) (at-loop .loop .i), kept solved),
       (omega (arith, solved .inside, kept solved), own solved),
     )
-
-add-i : tie.Need-add-i Inv-loop μ-loop
-add-i c = search needs
-
-loop-less : tie.Need-loop-less Inv-loop μ-loop
-loop-less c = search needs
 
 loop-again : tie.Need-loop-again Inv-loop μ-loop
 unfolding nodeSolved
@@ -143,7 +98,7 @@ same-length-3 : tie.Need-same-length-3 Inv-loop μ-loop
 same-length-3 c = kept (c .before .loop .inv .4)
 
 returns : tie.Need-returns Inv-loop μ-loop
-unfolding nodeEntries nodeRows nodeSolved
+unfolding everyPivot nodeEntries nodeRows nodeSolved
 returns c =
     let inv = c .before .loop .inv in
     let all : c .before .loop .i ≡ begun (c .before) .args .n = omega arith in (
@@ -160,23 +115,23 @@ factor-nodes-spec =
     Inv-loop
     μ-loop
     loop-holds
-    mul-at
-    mul-at-2
-    mul-row
-    mul-factor-node
-    add-factor-node
-    mul-factor-node-2
-    sub-factor-node
-    part-factor-node-start
-    part-factor-node-end
-    add-factor-node-2
-    mul-factor-node-3
-    sub-factor-node-2
-    part-factor-node-start-2
-    part-factor-node-end-2
+    (λ c. omega (arith, inside c .0))
+    (λ c. omega (arith, inside c .0))
+    (λ c. omega (arith, inside c .1))
+    (λ c. omega (arith, inside c .0))
+    (λ c. omega (arith, inside c .0))
+    (λ c. omega (arith, inside c .0))
+    (λ c. search needs)
+    (λ c. search needs)
+    (λ c. omega (arith, inside c .0, kept (c .before .loop .inv .2)))
+    (λ c. omega (arith, inside (c .before) .1))
+    (λ c. omega (arith, inside (c .before) .1))
+    (λ c. search needs)
+    (λ c. search needs)
+    (λ c. omega (arith, inside (c .before) .1, kept (c .before .before .loop .inv .3)))
     factor-node-requires
-    add-i
-    loop-less
+    (λ c. search needs)
+    (λ c. search needs)
     loop-again
     same-length
     same-length-2

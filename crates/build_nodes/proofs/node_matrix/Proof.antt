@@ -6,7 +6,7 @@ use borrow.Author.Needs.{needs}
 use Rattle.rules.specs.Lists.{listed}
 use Rattle.rules.specs.Solve.{matrix}
 use Rattle.rules.proofs.Lists.{length-listed, part-inside}
-use Rattle.build_block.specs.Kept.{transposed}
+use Rattle.build_block.specs.Columns.{transposed}
 use Rattle.build_nodes.specs.Steps.{nextEntry}
 use Rattle.rules.proofs.Parts.{Parted, none, kept, step, whole}
 use Rattle.rules.proofs.Cells.{next-part}
@@ -30,33 +30,6 @@ inside c = part-inside (begun (c .before) .args .m) (c .loop-test .taken)
 loop-holds : tie.Need-loop-holds Inv-loop μ-loop
 loop-holds c = (omega arith, none _ _ _ (λ j. length-listed _ _))
 
-mul-at : tie.Need-mul-at Inv-loop μ-loop
-mul-at c = search needs
-
-add-node-row : tie.Need-add-node-row Inv-loop μ-loop
-add-node-row c = omega (arith, inside c)
-
-mul-node-row : tie.Need-mul-node-row Inv-loop μ-loop
-mul-node-row c = search needs
-
-sub-node-row : tie.Need-sub-node-row Inv-loop μ-loop
-sub-node-row c = search needs
-
-part-node-row-start : tie.Need-part-node-row-start Inv-loop μ-loop
-part-node-row-start c = search needs
-
-part-node-row-end : tie.Need-part-node-row-end Inv-loop μ-loop
-part-node-row-end c = omega (arith, inside c, kept (c .before .loop .inv .1))
-
-node-row-requires : tie.Need-node-row-requires Inv-loop μ-loop
-node-row-requires c κs = search needs
-
-add-r : tie.Need-add-r Inv-loop μ-loop
-add-r c = search needs
-
-loop-less : tie.Need-loop-less Inv-loop μ-loop
-loop-less c = search needs
-
 loop-again : tie.Need-loop-again Inv-loop μ-loop
 loop-again c =
     let turn = c .before .before .before .before in
@@ -79,15 +52,15 @@ node-matrix-spec =
     Inv-loop
     μ-loop
     loop-holds
-    mul-at
-    add-node-row
-    mul-node-row
-    sub-node-row
-    part-node-row-start
-    part-node-row-end
-    node-row-requires
-    add-r
-    loop-less
+    (λ c. search needs)
+    (λ c. omega (arith, inside c))
+    (λ c. search needs)
+    (λ c. search needs)
+    (λ c. search needs)
+    (λ c. omega (arith, inside c, kept (c .before .loop .inv .1)))
+    (λ c κs. search needs)
+    (λ c. search needs)
+    (λ c. search needs)
     loop-again
     same-length
     returns)

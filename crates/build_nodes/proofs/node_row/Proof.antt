@@ -3,7 +3,7 @@
 use Prim.Native.Nat.{_+_, _*_, _-_, _≤_, _<_}
 use native.Mathlib.Omega.{arith}
 use borrow.Author.Needs.{needs}
-use Rattle.build_block.specs.Kept.{transposed}
+use Rattle.build_block.specs.Columns.{transposed}
 use Rattle.build_nodes.specs.Steps.{nextEntry}
 use Rattle.rules.proofs.Lists.{part-inside}
 use Rattle.rules.proofs.Cells.{read, cell-inside}
@@ -32,50 +32,8 @@ inside c =
 loop-holds : tie.Need-loop-holds Inv-loop μ-loop
 loop-holds c = none _ _
 
-mul-at : tie.Need-mul-at Inv-loop μ-loop
-mul-at c = omega (arith, inside c)
-
-mul-out : tie.Need-mul-out Inv-loop μ-loop
-mul-out c = omega (arith, inside c)
-
-add-out : tie.Need-add-out Inv-loop μ-loop
-add-out c = omega (arith, inside c)
-
-mul-out-2 : tie.Need-mul-out-2 Inv-loop μ-loop
-mul-out-2 c = omega (arith, inside c)
-
 shared-slice-read-out : tie.Need-shared-slice-read-out Inv-loop μ-loop
 shared-slice-read-out c = omega (arith, inside (c .before))
-
-add-dot : tie.Need-add-dot Inv-loop μ-loop
-add-dot c = omega (arith, inside (c .before))
-
-mul-dot : tie.Need-mul-dot Inv-loop μ-loop
-mul-dot c = omega (arith, inside (c .before))
-
-sub-dot : tie.Need-sub-dot Inv-loop μ-loop
-sub-dot c = search needs
-
-part-dot-start : tie.Need-part-dot-start Inv-loop μ-loop
-part-dot-start c = search needs
-
-part-dot-end : tie.Need-part-dot-end Inv-loop μ-loop
-part-dot-end c = omega (arith, inside (c .before))
-
-dot-requires : tie.Need-dot-requires Inv-loop μ-loop
-dot-requires c κs = search needs
-
-mul-out-3 : tie.Need-mul-out-3 Inv-loop μ-loop
-mul-out-3 c = search needs
-
-slice-write-out : tie.Need-slice-write-out Inv-loop μ-loop
-slice-write-out c = omega (arith, kept (c .before .before .before .before .loop .inv))
-
-add-c : tie.Need-add-c Inv-loop μ-loop
-add-c c = search needs
-
-loop-less : tie.Need-loop-less Inv-loop μ-loop
-loop-less c = search needs
 
 loop-again : tie.Need-loop-again Inv-loop μ-loop
 loop-again c =
@@ -102,21 +60,21 @@ node-row-spec =
     Inv-loop
     μ-loop
     loop-holds
-    mul-at
-    mul-out
-    add-out
-    mul-out-2
+    (λ c. omega (arith, inside c))
+    (λ c. omega (arith, inside c))
+    (λ c. omega (arith, inside c))
+    (λ c. omega (arith, inside c))
     shared-slice-read-out
-    add-dot
-    mul-dot
-    sub-dot
-    part-dot-start
-    part-dot-end
-    dot-requires
-    mul-out-3
-    slice-write-out
-    add-c
-    loop-less
+    (λ c. omega (arith, inside (c .before)))
+    (λ c. omega (arith, inside (c .before)))
+    (λ c. search needs)
+    (λ c. search needs)
+    (λ c. omega (arith, inside (c .before)))
+    (λ c κs. search needs)
+    (λ c. search needs)
+    (λ c. omega (arith, kept (c .before .before .before .before .loop .inv)))
+    (λ c. search needs)
+    (λ c. search needs)
     loop-again
     same-length
     returns)

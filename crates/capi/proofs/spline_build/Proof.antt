@@ -10,7 +10,7 @@ use lib.ListN.{length}
 use lib.Ieee.{Float}
 use Rattle.rules.specs.declared.BuildAnswer.{BuildAnswer}
 use Rattle.rules.specs.Build.{BuildInput, invDs, acceptedRecord, buildNumber, buildAnswer, bufferAfter}
-use Rattle.questions.specs.Input.{inputOf}
+use Rattle.rules.specs.Build.{inputOf}
 use Rattle.capi.specs.Export.{stateOf, configOf}
 use Rattle.capi.proofs.spline_build.Statement.{statement}
 use Rattle.capi.proofs.spline_build.Tie as tie

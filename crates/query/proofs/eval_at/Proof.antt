@@ -12,7 +12,7 @@ use Rattle.rules.specs.declared.SegmentUnits.{SegmentUnits}
 use Rattle.rules.specs.declared.Lookup.the-variants.{At}
 use Rattle.rules.specs.Query.{QueryInput, Lengths, Buffers, buffers, lengthsOf, writes, lookup, LookupSays, lookupSays, queryNumber, derivativeAfter, Queried}
 use Rattle.query.specs.Axes.{derivativeAt}
-use Rattle.questions.specs.Input.{queryOf}
+use Rattle.rules.specs.Query.{queryOf}
 use Rattle.query.proofs.Answered as Answered
 use Rattle.query.proofs.Answered.{range, in-range, out-of-range, segment-known, no-number, range-number, yes-number, refused, served, segments-known, evaluable, derivative-at}
 use Rattle.query.proofs.eval_at.Statement.{statement}

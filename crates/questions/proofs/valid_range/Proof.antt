@@ -6,12 +6,6 @@ use Rattle.questions.proofs.Range.{by-quotient}
 use Rattle.questions.proofs.valid_range.Statement.{statement}
 use Rattle.questions.proofs.valid_range.Tie as tie
 
-inv-ds-requires : tie.Need-inv-ds-requires
-inv-ds-requires c κs = search needs
-
-is-finite-requires : tie.Need-is-finite-requires
-is-finite-requires c κs = search needs
-
 returns : tie.Need-returns
 returns c = simp (by-quotient, ← c .before .before .inv-ds .ensures, no (c .before .is-finite .ensures) (c .if1 .taken))
 
@@ -20,4 +14,4 @@ unfolding ofBits
 returns-2 c = simp (by-quotient, ← c .before .before .inv-ds .ensures, yes (c .before .is-finite .ensures) (c .if1 .left))
 
 pub valid-range-spec : {M : Type 1} → statement M
-valid-range-spec = tie.close (tie.spec inv-ds-requires is-finite-requires returns returns-2)
+valid-range-spec = tie.close (tie.spec (λ c κs. search needs) (λ c κs. search needs) returns returns-2)

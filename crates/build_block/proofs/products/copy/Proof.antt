@@ -20,24 +20,6 @@ abbrev μ-loop : tie.MeasureT-loop
 loop-holds : tie.Need-loop-holds Inv-loop μ-loop
 loop-holds c = none _ _
 
-mul-to : tie.Need-mul-to Inv-loop μ-loop
-mul-to c = search needs
-
-shared-slice-read-to : tie.Need-shared-slice-read-to Inv-loop μ-loop
-shared-slice-read-to c = search needs
-
-mul-to-2 : tie.Need-mul-to-2 Inv-loop μ-loop
-mul-to-2 c = search needs
-
-slice-write-to : tie.Need-slice-write-to Inv-loop μ-loop
-slice-write-to c = omega (arith, kept (c .before .before .loop .inv))
-
-add-q : tie.Need-add-q Inv-loop μ-loop
-add-q c = search needs
-
-loop-less : tie.Need-loop-less Inv-loop μ-loop
-loop-less c = search needs
-
 loop-again : tie.Need-loop-again Inv-loop μ-loop
 loop-again c = step (c .before .before .loop .inv) (read (c .before .before .before .args .from .now) (c .before .before .loop .q) (omega arith)) (omega arith)
 
@@ -54,12 +36,12 @@ copy-spec =
     Inv-loop
     μ-loop
     loop-holds
-    mul-to
-    shared-slice-read-to
-    mul-to-2
-    slice-write-to
-    add-q
-    loop-less
+    (λ c. search needs)
+    (λ c. search needs)
+    (λ c. search needs)
+    (λ c. omega (arith, kept (c .before .before .loop .inv)))
+    (λ c. search needs)
+    (λ c. search needs)
     loop-again
     same-length
     returns)

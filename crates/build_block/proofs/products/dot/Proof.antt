@@ -24,9 +24,6 @@ next : (c : tie.In-loop Inv-loop μ-loop)
     → let args = c .before .before .before .before .args in args .at + c .before .loop .j * args .step < length (args .a .now)
 next c = omega (arith, part-inside (c .before .before .before .before .args .step) (c .loop-test .taken))
 
-mul-total : tie.Need-mul-total Inv-loop μ-loop
-mul-total c = omega (arith, part-inside (c .args .step) (c .pre .0))
-
 shared-slice-read-total : tie.Need-shared-slice-read-total Inv-loop μ-loop
 shared-slice-read-total c = omega (arith, part-inside (c .before .args .step) (c .before .pre .0))
 
@@ -41,26 +38,11 @@ loop-holds c = (
   rw (read _ _ (shared-slice-read-total (c .before)), read _ _ (shared-slice-read-total-2 c), sumOf-one, zero-mul, add-zero),
 )
 
-add-place : tie.Need-add-place Inv-loop μ-loop
-add-place c = omega (arith, next c)
-
-mul-total-2 : tie.Need-mul-total-2 Inv-loop μ-loop
-mul-total-2 c = omega (arith, next c)
-
 shared-slice-read-total-3 : tie.Need-shared-slice-read-total-3 Inv-loop μ-loop
 shared-slice-read-total-3 c = omega (arith, next (c .before))
 
-mul-total-3 : tie.Need-mul-total-3 Inv-loop μ-loop
-mul-total-3 c = search needs
-
 shared-slice-read-total-4 : tie.Need-shared-slice-read-total-4 Inv-loop μ-loop
 shared-slice-read-total-4 c = search needs
-
-add-j : tie.Need-add-j Inv-loop μ-loop
-add-j c = search needs
-
-loop-less : tie.Need-loop-less Inv-loop μ-loop
-loop-less c = search needs
 
 loop-again : tie.Need-loop-again Inv-loop μ-loop
 loop-again c =
@@ -84,16 +66,16 @@ dot-spec =
     (tie.spec
     Inv-loop
     μ-loop
-    mul-total
+    (λ c. omega (arith, part-inside (c .args .step) (c .pre .0)))
     shared-slice-read-total
     shared-slice-read-total-2
     loop-holds
-    add-place
-    mul-total-2
+    (λ c. omega (arith, next c))
+    (λ c. omega (arith, next c))
     shared-slice-read-total-3
-    mul-total-3
+    (λ c. search needs)
     shared-slice-read-total-4
-    add-j
-    loop-less
+    (λ c. search needs)
+    (λ c. search needs)
     loop-again
     returns)

@@ -5,7 +5,7 @@ use native.Mathlib.Omega.{arith}
 use borrow.Author.Needs.{needs}
 use Rattle.rules.specs.Floats.{_⊖_, _!_}
 use Rattle.rules.specs.Solve.{times, minus}
-use Rattle.build_block.specs.Kept.{transposed}
+use Rattle.build_block.specs.Columns.{transposed}
 use Rattle.rules.proofs.Fills.{Filled, none, kept, step, left, whole}
 use Rattle.build_block.proofs.Transposed.{times-at}
 use Rattle.build_block.proofs.products.subtract_product.Statement.{statement}
@@ -22,27 +22,6 @@ begun c = c .before .before .before .before
 
 loop-holds : tie.Need-loop-holds Inv-loop μ-loop
 loop-holds c = none _ _
-
-mul-v : tie.Need-mul-v Inv-loop μ-loop
-mul-v c = search needs
-
-slice-read-v : tie.Need-slice-read-v Inv-loop μ-loop
-slice-read-v c = omega (arith, kept (c .before .before .loop .inv))
-
-dot-requires : tie.Need-dot-requires Inv-loop μ-loop
-dot-requires c κs = search needs
-
-mul-v-2 : tie.Need-mul-v-2 Inv-loop μ-loop
-mul-v-2 c = search needs
-
-slice-write-v : tie.Need-slice-write-v Inv-loop μ-loop
-slice-write-v c = omega (arith, kept (c .before .before .before .loop .inv))
-
-add-i : tie.Need-add-i Inv-loop μ-loop
-add-i c = search needs
-
-loop-less : tie.Need-loop-less Inv-loop μ-loop
-loop-less c = search needs
 
 loop-again : tie.Need-loop-again Inv-loop μ-loop
 loop-again c =
@@ -66,13 +45,13 @@ subtract-product-spec =
     Inv-loop
     μ-loop
     loop-holds
-    mul-v
-    slice-read-v
-    dot-requires
-    mul-v-2
-    slice-write-v
-    add-i
-    loop-less
+    (λ c. search needs)
+    (λ c. omega (arith, kept (c .before .before .loop .inv)))
+    (λ c κs. search needs)
+    (λ c. search needs)
+    (λ c. omega (arith, kept (c .before .before .before .loop .inv)))
+    (λ c. search needs)
+    (λ c. search needs)
     loop-again
     same-length
     returns)

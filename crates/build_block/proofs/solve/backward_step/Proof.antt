@@ -41,21 +41,6 @@ last {v} c e =
     on (step above {v = v} (rw (le-ltb k k (omega arith), eq-eqb k k refl) e) (omega arith)) (args .m) (omega arith) (omega arith)
     (λ j h l. rw (le-ltb j k (omega arith), ne-eqb j k (λ q. omega arith)))
 
-mul-x : tie.Need-mul-x Inv-loop μ-loop
-mul-x c = search needs
-
-slice-read-x : tie.Need-slice-read-x Inv-loop μ-loop
-slice-read-x c = search needs
-
-mul-x-2 : tie.Need-mul-x-2 Inv-loop μ-loop
-mul-x-2 c = omega (arith, diagonal (c .before))
-
-add-x : tie.Need-add-x Inv-loop μ-loop
-add-x c = omega (arith, diagonal (c .before))
-
-mul-x-3 : tie.Need-mul-x-3 Inv-loop μ-loop
-mul-x-3 c = omega (arith, diagonal (c .before))
-
 shared-slice-read-x : tie.Need-shared-slice-read-x Inv-loop μ-loop
 shared-slice-read-x c = diagonal (c .before .before)
 
@@ -64,35 +49,8 @@ loop-holds c =
     let args = c .before .before .args in
     (omega arith, rw (read (args .y .now) (args .k) (omega arith), read (args .entries .now) _ (diagonal (c .before .before))), none _ _)
 
-mul-y : tie.Need-mul-y Inv-loop μ-loop
-mul-y c = search needs
-
-slice-read-y : tie.Need-slice-read-y Inv-loop μ-loop
-slice-read-y c = omega (arith, kept (c .before .before .loop .inv .2))
-
-mul-y-2 : tie.Need-mul-y-2 Inv-loop μ-loop
-mul-y-2 c = omega (arith, inside (c .before))
-
-add-y : tie.Need-add-y Inv-loop μ-loop
-add-y c = omega (arith, inside (c .before))
-
-mul-y-3 : tie.Need-mul-y-3 Inv-loop μ-loop
-mul-y-3 c = omega (arith, inside (c .before))
-
 shared-slice-read-y : tie.Need-shared-slice-read-y Inv-loop μ-loop
 shared-slice-read-y c = inside (c .before .before)
-
-mul-y-4 : tie.Need-mul-y-4 Inv-loop μ-loop
-mul-y-4 c = search needs
-
-slice-write-y : tie.Need-slice-write-y Inv-loop μ-loop
-slice-write-y c = omega (arith, kept (c .before .before .before .loop .inv .2))
-
-add-i : tie.Need-add-i Inv-loop μ-loop
-add-i c = search needs
-
-loop-less : tie.Need-loop-less Inv-loop μ-loop
-loop-less c = search needs
 
 loop-again : tie.Need-loop-again Inv-loop μ-loop
 loop-again c =
@@ -108,12 +66,6 @@ loop-again c =
           (omega arith),
     )
 
-mul-y-5 : tie.Need-mul-y-5 Inv-loop μ-loop
-mul-y-5 c = search needs
-
-slice-write-y-2 : tie.Need-slice-write-y-2 Inv-loop μ-loop
-slice-write-y-2 c = omega (arith, kept (c .before .loop .inv .2))
-
 same-length : tie.Need-same-length Inv-loop μ-loop
 same-length c = kept (last c (c .before .loop .inv .1))
 
@@ -127,25 +79,25 @@ backward-step-spec =
     (tie.spec
     Inv-loop
     μ-loop
-    mul-x
-    slice-read-x
-    mul-x-2
-    add-x
-    mul-x-3
+    (λ c. search needs)
+    (λ c. search needs)
+    (λ c. omega (arith, diagonal (c .before)))
+    (λ c. omega (arith, diagonal (c .before)))
+    (λ c. omega (arith, diagonal (c .before)))
     shared-slice-read-x
     loop-holds
-    mul-y
-    slice-read-y
-    mul-y-2
-    add-y
-    mul-y-3
+    (λ c. search needs)
+    (λ c. omega (arith, kept (c .before .before .loop .inv .2)))
+    (λ c. omega (arith, inside (c .before)))
+    (λ c. omega (arith, inside (c .before)))
+    (λ c. omega (arith, inside (c .before)))
     shared-slice-read-y
-    mul-y-4
-    slice-write-y
-    add-i
-    loop-less
+    (λ c. search needs)
+    (λ c. omega (arith, kept (c .before .before .before .loop .inv .2)))
+    (λ c. search needs)
+    (λ c. search needs)
     loop-again
-    mul-y-5
-    slice-write-y-2
+    (λ c. search needs)
+    (λ c. omega (arith, kept (c .before .loop .inv .2)))
     same-length
     returns)

@@ -27,15 +27,6 @@ loop-holds c =
     let pre = c .before .before .before .before .before .before .before .before .pre in
     (omega arith, call .kept .1 .1 .0 ∙ pre .y-length, call .ensures ∙ rw (pre .rows-length))
 
-forward-step-requires : tie.Need-forward-step-requires Inv-loop μ-loop
-forward-step-requires c κs = search needs
-
-add-k : tie.Need-add-k Inv-loop μ-loop
-add-k c = search needs
-
-loop-less : tie.Need-loop-less Inv-loop μ-loop
-loop-less c = search needs
-
 loop-again : tie.Need-loop-again Inv-loop μ-loop
 loop-again c =
     let at-loop = c .before .before .before .before .before in
@@ -44,9 +35,6 @@ loop-again c =
       call .kept .1 .1 .1 .0 ∙ at-loop .loop .inv .1,
       call .ensures ∙ rw (forward-more, at-loop .loop .inv .2),
     )
-
-same-length : tie.Need-same-length Inv-loop μ-loop
-same-length c = search needs
 
 returns : tie.Need-returns Inv-loop μ-loop
 returns c =
@@ -61,9 +49,9 @@ forward-spec =
     μ-loop
     permuted-requires
     loop-holds
-    forward-step-requires
-    add-k
-    loop-less
+    (λ c κs. search needs)
+    (λ c. search needs)
+    (λ c. search needs)
     loop-again
-    same-length
+    (λ c. search needs)
     returns)

@@ -21,15 +21,6 @@ inside : (c : tie.In-loop Inv-loop μ-loop)
     → let args = c .before .before .before .args in c .before .loop .i * args .m + args .k < length (args .entries .now)
 inside c = omega (arith, cell-inside (c .before .before .before .args .m) (c .loop-test .taken) (c .before .before .before .pre .1))
 
-mul-x : tie.Need-mul-x Inv-loop μ-loop
-mul-x c = search needs
-
-slice-read-x : tie.Need-slice-read-x Inv-loop μ-loop
-slice-read-x c = search needs
-
-add-i : tie.Need-add-i Inv-loop μ-loop
-add-i c = search needs
-
 loop-holds : tie.Need-loop-holds Inv-loop μ-loop
 loop-holds c =
     let args = c .before .args in
@@ -37,35 +28,8 @@ loop-holds c =
     let k = args .k in
     (omega arith, start (k + 1) (forwardCell (args .m) (args .entries .now) y k) y (omega arith) (λ j h. rw (le-leb j k (omega arith))))
 
-mul-y : tie.Need-mul-y Inv-loop μ-loop
-mul-y c = search needs
-
-slice-read-y : tie.Need-slice-read-y Inv-loop μ-loop
-slice-read-y c = omega (arith, kept (c .before .before .loop .inv .1))
-
-mul-y-2 : tie.Need-mul-y-2 Inv-loop μ-loop
-mul-y-2 c = omega (arith, inside (c .before))
-
-add-y : tie.Need-add-y Inv-loop μ-loop
-add-y c = omega (arith, inside (c .before))
-
-mul-y-3 : tie.Need-mul-y-3 Inv-loop μ-loop
-mul-y-3 c = omega (arith, inside (c .before))
-
 shared-slice-read-y : tie.Need-shared-slice-read-y Inv-loop μ-loop
 shared-slice-read-y c = inside (c .before .before)
-
-mul-y-4 : tie.Need-mul-y-4 Inv-loop μ-loop
-mul-y-4 c = search needs
-
-slice-write-y : tie.Need-slice-write-y Inv-loop μ-loop
-slice-write-y c = omega (arith, kept (c .before .before .before .loop .inv .1))
-
-add-i-2 : tie.Need-add-i-2 Inv-loop μ-loop
-add-i-2 c = search needs
-
-loop-less : tie.Need-loop-less Inv-loop μ-loop
-loop-less c = search needs
 
 loop-again : tie.Need-loop-again Inv-loop μ-loop
 loop-again c =
@@ -98,20 +62,20 @@ forward-step-spec =
     (tie.spec
     Inv-loop
     μ-loop
-    mul-x
-    slice-read-x
-    add-i
+    (λ c. search needs)
+    (λ c. search needs)
+    (λ c. search needs)
     loop-holds
-    mul-y
-    slice-read-y
-    mul-y-2
-    add-y
-    mul-y-3
+    (λ c. search needs)
+    (λ c. omega (arith, kept (c .before .before .loop .inv .1)))
+    (λ c. omega (arith, inside (c .before)))
+    (λ c. omega (arith, inside (c .before)))
+    (λ c. omega (arith, inside (c .before)))
     shared-slice-read-y
-    mul-y-4
-    slice-write-y
-    add-i-2
-    loop-less
+    (λ c. search needs)
+    (λ c. omega (arith, kept (c .before .before .before .loop .inv .1)))
+    (λ c. search needs)
+    (λ c. search needs)
     loop-again
     same-length
     returns)

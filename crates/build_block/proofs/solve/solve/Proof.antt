@@ -15,36 +15,15 @@ Inv-loop m entries rows b y₀ d₀ y d = (d ≤ m) × (length y ≡ m) × (y �
 abbrev μ-loop : tie.MeasureT-loop
 μ-loop m entries rows b y₀ d₀ y d = m - d
 
-forward-requires : tie.Need-forward-requires Inv-loop μ-loop
-forward-requires c κs = search needs
-
 loop-holds : tie.Need-loop-holds Inv-loop μ-loop
 unfolding backward
 loop-holds c = search needs
-
-add-k : tie.Need-add-k Inv-loop μ-loop
-add-k c = search needs
-
-sub-k : tie.Need-sub-k Inv-loop μ-loop
-sub-k c = search needs
-
-backward-step-requires : tie.Need-backward-step-requires Inv-loop μ-loop
-backward-step-requires c κs = search needs
-
-add-d : tie.Need-add-d Inv-loop μ-loop
-add-d c = search needs
-
-loop-less : tie.Need-loop-less Inv-loop μ-loop
-loop-less c = search needs
 
 loop-again : tie.Need-loop-again Inv-loop μ-loop
 loop-again c =
     let at-loop = c .before .before .before .before .before in
     let call = c .before .before .backward-step in
     (omega arith, call .kept .1 .1 .1 .0 ∙ at-loop .loop .inv .1, call .ensures ∙ rw (backward-more, at-loop .loop .inv .2))
-
-same-length : tie.Need-same-length Inv-loop μ-loop
-same-length c = search needs
 
 returns : tie.Need-returns Inv-loop μ-loop
 unfolding solve
@@ -58,13 +37,13 @@ solve-spec =
     (tie.spec
     Inv-loop
     μ-loop
-    forward-requires
+    (λ c κs. search needs)
     loop-holds
-    add-k
-    sub-k
-    backward-step-requires
-    add-d
-    loop-less
+    (λ c. search needs)
+    (λ c. search needs)
+    (λ c κs. search needs)
+    (λ c. search needs)
+    (λ c. search needs)
     loop-again
-    same-length
+    (λ c. search needs)
     returns)

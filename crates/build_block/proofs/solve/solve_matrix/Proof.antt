@@ -6,7 +6,7 @@ use native.Mathlib.Omega.{arith}
 use borrow.Author.Needs.{needs}
 use Rattle.rules.specs.Solve.{solve, column}
 use Rattle.rules.proofs.Solve.{length-solve}
-use Rattle.build_block.specs.Kept.{transposed}
+use Rattle.build_block.specs.Columns.{transposed}
 use Rattle.rules.proofs.Lists.{part-inside}
 use Rattle.rules.proofs.Cells.{next-part}
 use Rattle.build_block.proofs.Columns.{part-column, solved-columns}
@@ -43,36 +43,6 @@ turned c =
 loop-holds : tie.Need-loop-holds Inv-loop μ-loop
 loop-holds c = (omega arith, none _ _ _ (λ j. length-solve _ _ _))
 
-mul-at : tie.Need-mul-at Inv-loop μ-loop
-mul-at c = search needs
-
-add-end : tie.Need-add-end Inv-loop μ-loop
-add-end c = search needs
-
-mul-solve : tie.Need-mul-solve Inv-loop μ-loop
-mul-solve c = search needs
-
-sub-solve : tie.Need-sub-solve Inv-loop μ-loop
-sub-solve c = search needs
-
-part-solve-start : tie.Need-part-solve-start Inv-loop μ-loop
-part-solve-start c = search needs
-
-part-solve-end : tie.Need-part-solve-end Inv-loop μ-loop
-part-solve-end c = omega (arith, inside c)
-
-mul-solve-2 : tie.Need-mul-solve-2 Inv-loop μ-loop
-mul-solve-2 c = search needs
-
-sub-solve-2 : tie.Need-sub-solve-2 Inv-loop μ-loop
-sub-solve-2 c = search needs
-
-part-solve-start-2 : tie.Need-part-solve-start-2 Inv-loop μ-loop
-part-solve-start-2 c = search needs
-
-part-solve-end-2 : tie.Need-part-solve-end-2 Inv-loop μ-loop
-part-solve-end-2 c = omega (arith, inside (c .before), kept (c .before .before .loop .inv .1))
-
 solve-requires : tie.Need-solve-requires Inv-loop μ-loop
 solve-requires c κs =
     let pre = begun (c .before .before .before) .pre in
@@ -83,12 +53,6 @@ solve-requires c κs =
       b-length = omega (arith, c .before .solve-arg .given .2);
       y-length = omega (arith, c .solve-arg2 .given .2);
     }
-
-add-j : tie.Need-add-j Inv-loop μ-loop
-add-j c = search needs
-
-loop-less : tie.Need-loop-less Inv-loop μ-loop
-loop-less c = search needs
 
 loop-again : tie.Need-loop-again Inv-loop μ-loop
 loop-again c =
@@ -111,19 +75,19 @@ solve-matrix-spec =
     Inv-loop
     μ-loop
     loop-holds
-    mul-at
-    add-end
-    mul-solve
-    sub-solve
-    part-solve-start
-    part-solve-end
-    mul-solve-2
-    sub-solve-2
-    part-solve-start-2
-    part-solve-end-2
+    (λ c. search needs)
+    (λ c. search needs)
+    (λ c. search needs)
+    (λ c. search needs)
+    (λ c. search needs)
+    (λ c. omega (arith, inside c))
+    (λ c. search needs)
+    (λ c. search needs)
+    (λ c. search needs)
+    (λ c. omega (arith, inside (c .before), kept (c .before .before .loop .inv .1)))
     solve-requires
-    add-j
-    loop-less
+    (λ c. search needs)
+    (λ c. search needs)
     loop-again
     same-length
     returns)

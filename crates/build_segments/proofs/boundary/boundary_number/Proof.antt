@@ -13,7 +13,7 @@ use Rattle.rules.specs.declared.BoundaryState.the-variants.{Given}
 use Rattle.rules.specs.Floats.{_!_}
 use Rattle.rules.specs.Build.{divided, boundaryNumber}
 use Rattle.rules.proofs.Cells.{read}
-use Rattle.build_segments.specs.Kept.{HasNumbers}
+use Rattle.build_segments.specs.Given.{HasNumbers}
 use borrow.Author.Needs.{needs}
 use Rattle.build_segments.proofs.boundary.boundary_number.Statement.{statement}
 use Rattle.build_segments.proofs.boundary.boundary_number.Tie as tie
@@ -44,18 +44,6 @@ module _ (axes axis r : ℕ) (numbers : List Float) (state : BoundaryState) (row
 enum-told : tie.Need-enum-told
 enum-told c = search needs
 
-enum-known-state : tie.Need-enum-known-state
-enum-known-state c = search needs
-
-mul-x : tie.Need-mul-x
-mul-x c = omega (arith, inside _ _ _ _ _ _ _ _ (c .before .state .given .1) (c .before .before .before .before .pre .0) (c .before .before .before .before .pre .1))
-
-add-x : tie.Need-add-x
-add-x c = omega (arith, inside _ _ _ _ _ _ _ _ (c .before .state .given .1) (c .before .before .before .before .pre .0) (c .before .before .before .before .pre .1))
-
-mul-x-2 : tie.Need-mul-x-2
-mul-x-2 c = omega (arith, inside _ _ _ _ _ _ _ _ (c .before .state .given .1) (c .before .before .before .before .pre .0) (c .before .before .before .before .pre .1))
-
 shared-slice-read-x : tie.Need-shared-slice-read-x
 shared-slice-read-x c = inside _ _ _ _ _ _ _ _ (c .before .before .state .given .1) (c .before .before .before .before .before .pre .0) (c .before .before .before .before .before .pre .1)
 
@@ -63,9 +51,6 @@ add-divided : tie.Need-add-divided
 add-divided c =
     let start = c .before .before .before .before .before .before in
     omega (arith, few _ _ _ _ _ _ _ _ (c .before .before .before .state .given .1) (start .pre .0) (start .pre .1))
-
-divided-requires : tie.Need-divided-requires
-divided-requires c κs = search needs
 
 returns : tie.Need-returns
 unfolding boundaryNumber ofBits
@@ -95,13 +80,13 @@ boundary-number-spec =
     tie.close
     (tie.spec
     enum-told
-    enum-known-state
-    mul-x
-    add-x
-    mul-x-2
+    (λ c. search needs)
+    (λ c. omega (arith, inside _ _ _ _ _ _ _ _ (c .before .state .given .1) (c .before .before .before .before .pre .0) (c .before .before .before .before .pre .1)))
+    (λ c. omega (arith, inside _ _ _ _ _ _ _ _ (c .before .state .given .1) (c .before .before .before .before .pre .0) (c .before .before .before .before .pre .1)))
+    (λ c. omega (arith, inside _ _ _ _ _ _ _ _ (c .before .state .given .1) (c .before .before .before .before .pre .0) (c .before .before .before .before .pre .1)))
     shared-slice-read-x
     add-divided
-    divided-requires
+    (λ c κs. search needs)
     returns
     returns-2
     returns-3)

@@ -27,18 +27,6 @@ boundary-number-requires c κs =
     let start = c .before .before .before .before in
     (start .pre .0, fewer (start .args .axes) (c .before .loop .r + 1) (start .args .m) (start .args .state) (start .args .numbers .now) (omega arith) (start .pre .1))
 
-mul-out : tie.Need-mul-out Inv-loop μ-loop
-mul-out c = search needs
-
-slice-write-out : tie.Need-slice-write-out Inv-loop μ-loop
-slice-write-out c = search needs
-
-add-r : tie.Need-add-r Inv-loop μ-loop
-add-r c = search needs
-
-loop-less : tie.Need-loop-less Inv-loop μ-loop
-loop-less c = search needs
-
 loop-again : tie.Need-loop-again Inv-loop μ-loop
 loop-again c =
     let at = c .before .before .loop in
@@ -49,9 +37,6 @@ loop-again c =
       search needs,
       simp length-set (at .inv .2),
     )
-
-same-length : tie.Need-same-length Inv-loop μ-loop
-same-length c = search needs
 
 returns : tie.Need-returns Inv-loop μ-loop
 returns c =
@@ -67,10 +52,10 @@ boundary-numbers-spec =
     μ-loop
     loop-holds
     boundary-number-requires
-    mul-out
-    slice-write-out
-    add-r
-    loop-less
+    (λ c. search needs)
+    (λ c. search needs)
+    (λ c. search needs)
+    (λ c. search needs)
     loop-again
-    same-length
+    (λ c. search needs)
     returns)

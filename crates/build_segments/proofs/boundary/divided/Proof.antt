@@ -18,12 +18,6 @@ loop-holds : tie.Need-loop-holds Inv-loop μ-loop
 unfolding divided
 loop-holds c = (refl, omega arith)
 
-add-k : tie.Need-add-k Inv-loop μ-loop
-add-k c = search needs
-
-loop-less : tie.Need-loop-less Inv-loop μ-loop
-loop-less c = search needs
-
 loop-again : tie.Need-loop-again Inv-loop μ-loop
 unfolding divided
 loop-again c = (rw (add-one, c .before .loop .inv .0), omega arith)
@@ -35,4 +29,4 @@ returns c =
     at .inv .0 ∙ ap (λ (k : ℕ). divided k (args .x) (args .by)) (omega arith)
 
 pub divided-spec : {M : Type 1} → statement M
-divided-spec = tie.close (tie.spec Inv-loop μ-loop loop-holds add-k loop-less loop-again returns)
+divided-spec = tie.close (tie.spec Inv-loop μ-loop loop-holds (λ c. search needs) (λ c. search needs) loop-again returns)

@@ -34,39 +34,6 @@ abbrev μ-loop : tie.MeasureT-loop
 loop-holds : tie.Need-loop-holds Inv-loop μ-loop
 loop-holds c = (sym (filled-none _ _), search needs, search needs)
 
-mul-out : tie.Need-mul-out Inv-loop μ-loop
-mul-out c = search needs
-
-mul-out-2 : tie.Need-mul-out-2 Inv-loop μ-loop
-mul-out-2 c = search needs
-
-shared-slice-read-out : tie.Need-shared-slice-read-out Inv-loop μ-loop
-shared-slice-read-out c = search needs
-
-mul-out-3 : tie.Need-mul-out-3 Inv-loop μ-loop
-mul-out-3 c = search needs
-
-add-out : tie.Need-add-out Inv-loop μ-loop
-add-out c = search needs
-
-mul-out-4 : tie.Need-mul-out-4 Inv-loop μ-loop
-mul-out-4 c = search needs
-
-shared-slice-read-out-2 : tie.Need-shared-slice-read-out-2 Inv-loop μ-loop
-shared-slice-read-out-2 c = search needs
-
-mul-out-5 : tie.Need-mul-out-5 Inv-loop μ-loop
-mul-out-5 c = search needs
-
-slice-write-out : tie.Need-slice-write-out Inv-loop μ-loop
-slice-write-out c = search needs
-
-add-k : tie.Need-add-k Inv-loop μ-loop
-add-k c = search needs
-
-loop-less : tie.Need-loop-less Inv-loop μ-loop
-loop-less c = search needs
-
 loop-again : tie.Need-loop-again Inv-loop μ-loop
 loop-again c =
     let at = c .before .before .before .loop in
@@ -77,9 +44,6 @@ loop-again c =
       search needs,
       simp length-set (at .inv .2),
     )
-
-same-length : tie.Need-same-length Inv-loop μ-loop
-same-length c = search needs
 
 returns : tie.Need-returns Inv-loop μ-loop
 returns c =
@@ -94,17 +58,17 @@ compute-rhs-spec =
     Inv-loop
     μ-loop
     loop-holds
-    mul-out
-    mul-out-2
-    shared-slice-read-out
-    mul-out-3
-    add-out
-    mul-out-4
-    shared-slice-read-out-2
-    mul-out-5
-    slice-write-out
-    add-k
-    loop-less
+    (λ c. search needs)
+    (λ c. search needs)
+    (λ c. search needs)
+    (λ c. search needs)
+    (λ c. search needs)
+    (λ c. search needs)
+    (λ c. search needs)
+    (λ c. search needs)
+    (λ c. search needs)
+    (λ c. search needs)
+    (λ c. search needs)
     loop-again
-    same-length
+    (λ c. search needs)
     returns)

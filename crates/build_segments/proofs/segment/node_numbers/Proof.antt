@@ -4,49 +4,22 @@ use Prim.Native.Nat.{_-_, _*_}
 use native.Mathlib.Nat.{sub-zero}
 use native.Mathlib.Omega.{arith}
 use Rattle.rules.proofs.Lists.{part-inside}
-use Rattle.build_segments.specs.Kept.{nodePart}
+use Rattle.build_segments.specs.NodeNumbers.{nodePart}
 use Rattle.build_segments.proofs.Nodes.{last-part, inner-part}
 use Rattle.rules.proofs.Lent.{part-size}
 use borrow.Author.Needs.{needs}
 use Rattle.build_segments.proofs.segment.node_numbers.Statement.{statement}
 use Rattle.build_segments.proofs.segment.node_numbers.Tie as tie
 
-sub-result : tie.Need-sub-result
-sub-result c = search needs
-
-part-result-start : tie.Need-part-result-start
-part-result-start c = search needs
-
-part-result-end : tie.Need-part-result-end
-part-result-end c = search needs
-
 returns : tie.Need-returns
 unfolding nodePart
 returns c = rw (c .before .if1 .taken, sub-zero)
-
-add-result : tie.Need-add-result
-add-result c = search needs
-
-mul-result : tie.Need-mul-result
-mul-result c = search needs
-
-sub-result-2 : tie.Need-sub-result-2
-sub-result-2 c = search needs
-
-part-result-start-2 : tie.Need-part-result-start-2
-part-result-start-2 c = search needs
-
-part-result-end-2 : tie.Need-part-result-end-2
-part-result-end-2 c = search needs
 
 returns-2 : tie.Need-returns-2
 returns-2 c =
     let args = c .before .before .before .args in
     part-size (args .m) (args .m) (args .boundary .now)
     ∙ sym (last-part (args .m) (args .n) (args .boundary .now) (args .solved .now) (args .i) (search needs))
-
-sub-at : tie.Need-sub-at
-sub-at c = search needs
 
 mul-at : tie.Need-mul-at
 mul-at c =
@@ -63,12 +36,6 @@ mul-result-2 c =
     let args = c .before .before .args in
     omega (arith, part-inside (args .m) {i = args .i - 1} {n = args .n} (omega arith))
 
-sub-result-3 : tie.Need-sub-result-3
-sub-result-3 c = search needs
-
-part-result-start-3 : tie.Need-part-result-start-3
-part-result-start-3 c = search needs
-
 part-result-end-3 : tie.Need-part-result-end-3
 part-result-end-3 c =
     let args = c .before .before .args in
@@ -84,21 +51,21 @@ pub node-numbers-spec : {M : Type 1} → statement M
 node-numbers-spec =
     tie.close
     (tie.spec
-    sub-result
-    part-result-start
-    part-result-end
+    (λ c. search needs)
+    (λ c. search needs)
+    (λ c. search needs)
     returns
-    add-result
-    mul-result
-    sub-result-2
-    part-result-start-2
-    part-result-end-2
+    (λ c. search needs)
+    (λ c. search needs)
+    (λ c. search needs)
+    (λ c. search needs)
+    (λ c. search needs)
     returns-2
-    sub-at
+    (λ c. search needs)
     mul-at
     add-result-2
     mul-result-2
-    sub-result-3
-    part-result-start-3
+    (λ c. search needs)
+    (λ c. search needs)
     part-result-end-3
     returns-3)

@@ -1,9 +1,11 @@
 -- `build_segments::segment::upper_coeffs` meets its contract. The loop's invariant: the list has the upper coefficients below i, and its own cells from i on. Assumes nothing.
 use Prim.Native.Nat.{_+_, _-_, _*_, _≤_}
 use native.Mathlib.Omega.{arith}
+use lib.ListN.{length}
 use Rattle.rules.specs.Build.{upperCoefficient}
 use Rattle.rules.proofs.Lists.{part-inside}
 use Rattle.rules.proofs.Cells.{read}
+use Rattle.build_block.proofs.Transposed.{rows-long}
 use Rattle.rules.proofs.Fills.{Filled, none, kept, step, whole}
 use Rattle.build_segments.proofs.Upper.{upper-is}
 use borrow.Author.Needs.{needs}
@@ -21,60 +23,21 @@ begun c = c .before .before .before .before .before
 
 -- row i of H is inside
 row : (c : tie.In-loop Inv-loop μ-loop)
-    → (let w = 1 + 2 * begun (c .before) .args .m in c .before .loop .i * w + w ≤ (begun (c .before) .args .m + 1) * w)
-row c = part-inside (1 + 2 * begun (c .before) .args .m) (c .loop-test .taken)
-
-mul-width : tie.Need-mul-width Inv-loop μ-loop
-mul-width c = search needs
-
-add-width : tie.Need-add-width Inv-loop μ-loop
-add-width c = search needs
+    → (let w = 1 + 2 * begun (c .before) .args .m in c .before .loop .i * w + w ≤ length (begun (c .before) .args .h-coeff .now))
+row c = let start = begun (c .before) in rw (rows-long (start .pre .1)) (part-inside (1 + 2 * start .args .m) (c .loop-test .taken))
 
 loop-holds : tie.Need-loop-holds Inv-loop μ-loop
 loop-holds c = none _ _
 
-add-loop : tie.Need-add-loop Inv-loop μ-loop
-add-loop c = search needs
-
-mul-at : tie.Need-mul-at Inv-loop μ-loop
-mul-at c = omega (arith, row c)
-
-add-dot : tie.Need-add-dot Inv-loop μ-loop
-add-dot c = omega (arith, row c)
-
 dot-requires : tie.Need-dot-requires Inv-loop μ-loop
 dot-requires c κs =
     let pre = begun (c .before) .pre in
-    (pre .0 .some, omega (arith, row c), search needs)
-
-add-dot-2 : tie.Need-add-dot-2 Inv-loop μ-loop
-add-dot-2 c = omega (arith, row (c .before))
-
-add-dot-3 : tie.Need-add-dot-3 Inv-loop μ-loop
-add-dot-3 c = omega (arith, row (c .before))
+    (pre .0, omega (arith, row c), search needs)
 
 dot-requires-2 : tie.Need-dot-requires-2 Inv-loop μ-loop
 dot-requires-2 c κs =
     let pre = begun (c .before .before) .pre in
-    (pre .0 .some, omega (arith, row (c .before)), pre .2)
-
-mul-out : tie.Need-mul-out Inv-loop μ-loop
-mul-out c = omega (arith, row (c .before .before))
-
-shared-slice-read-out : tie.Need-shared-slice-read-out Inv-loop μ-loop
-shared-slice-read-out c = omega (arith, row (c .before .before .before))
-
-mul-out-2 : tie.Need-mul-out-2 Inv-loop μ-loop
-mul-out-2 c = search needs
-
-slice-write-out : tie.Need-slice-write-out Inv-loop μ-loop
-slice-write-out c = omega (arith, kept (c .before .before .before .before .loop .inv))
-
-add-i : tie.Need-add-i Inv-loop μ-loop
-add-i c = search needs
-
-loop-less : tie.Need-loop-less Inv-loop μ-loop
-loop-less c = search needs
+    (pre .0, omega (arith, row (c .before)), pre .3)
 
 loop-again : tie.Need-loop-again Inv-loop μ-loop
 loop-again c =
@@ -83,14 +46,14 @@ loop-again c =
     let args = begun at-loop .args in
     step (at-loop .loop .inv)
     (rw (read (args .h-coeff .now) (i * (1 + 2 * args .m)) (omega (arith, row (c .before .before .before))), c .before .before .dot .ensures, c .before .dot2 .ensures)
-    (upper-is (args .m) (args .dy) (args .h-coeff .now) (args .u0 .now) (args .u1 .now) i (begun at-loop .pre .0 .h-is)))
+    (upper-is (args .m) (args .dy) (args .h-coeff .now) (args .u0 .now) (args .u1 .now) i (begun at-loop .pre .1 .is)))
     (omega arith)
 
 same-length : tie.Need-same-length Inv-loop μ-loop
 same-length c = kept (c .before .loop .inv)
 
 returns : tie.Need-returns Inv-loop μ-loop
-returns c = whole (c .before .loop .inv) (begun (c .before) .pre .3) (omega arith)
+returns c = whole (c .before .loop .inv) (begun (c .before) .pre .4) (omega arith)
 
 pub upper-coeffs-spec : {M : Type 1} → statement M
 upper-coeffs-spec =
@@ -98,22 +61,22 @@ upper-coeffs-spec =
     (tie.spec
     Inv-loop
     μ-loop
-    mul-width
-    add-width
+    (λ c. search needs)
+    (λ c. search needs)
     loop-holds
-    add-loop
-    mul-at
-    add-dot
+    (λ c. search needs)
+    (λ c. omega (arith, row c))
+    (λ c. omega (arith, row c))
     dot-requires
-    add-dot-2
-    add-dot-3
+    (λ c. omega (arith, row (c .before)))
+    (λ c. omega (arith, row (c .before)))
     dot-requires-2
-    mul-out
-    shared-slice-read-out
-    mul-out-2
-    slice-write-out
-    add-i
-    loop-less
+    (λ c. omega (arith, row (c .before .before)))
+    (λ c. omega (arith, row (c .before .before .before)))
+    (λ c. search needs)
+    (λ c. omega (arith, kept (c .before .before .before .before .loop .inv)))
+    (λ c. search needs)
+    (λ c. search needs)
     loop-again
     same-length
     returns)

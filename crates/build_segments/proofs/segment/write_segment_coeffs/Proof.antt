@@ -10,40 +10,10 @@ use borrow.Author.Needs.{needs}
 use Rattle.build_segments.proofs.segment.write_segment_coeffs.Statement.{statement}
 use Rattle.build_segments.proofs.segment.write_segment_coeffs.Tie as tie
 
-add-upper : tie.Need-add-upper
-add-upper c = search needs
-
-slice-write-out : tie.Need-slice-write-out
-slice-write-out c = search needs
-
-sub-copy : tie.Need-sub-copy
-sub-copy c = search needs
-
-part-copy-start : tie.Need-part-copy-start
-part-copy-start c = search needs
-
 part-copy-end : tie.Need-part-copy-end
 part-copy-end c =
     let args = c .before .before .before .before .args in
     omega (arith, length-set (args .out .now) 0 (args .y))
-
-copy-requires : tie.Need-copy-requires
-copy-requires c κs = search needs
-
-add-upper-coeffs : tie.Need-add-upper-coeffs
-add-upper-coeffs c = search needs
-
-add-upper-coeffs-2 : tie.Need-add-upper-coeffs-2
-add-upper-coeffs-2 c = search needs
-
-mul-upper-coeffs : tie.Need-mul-upper-coeffs
-mul-upper-coeffs c = search needs
-
-sub-upper-coeffs : tie.Need-sub-upper-coeffs
-sub-upper-coeffs c = search needs
-
-part-upper-coeffs-start : tie.Need-part-upper-coeffs-start
-part-upper-coeffs-start c = search needs
 
 part-upper-coeffs-end : tie.Need-part-upper-coeffs-end
 part-upper-coeffs-end c =
@@ -53,7 +23,7 @@ part-upper-coeffs-end c =
 upper-coeffs-requires : tie.Need-upper-coeffs-requires
 upper-coeffs-requires c κs =
     let pre = c .before .before .before .before .before .before .before .before .before .pre in
-    (pre .0, pre .1, pre .2, search needs)
+    (pre .0, pre .1, pre .2, pre .3, search needs)
 
 same-length : tie.Need-same-length
 same-length c =
@@ -67,23 +37,23 @@ returns c =
     let args = start .args in
     rw (c .before .before .before .before .before .before .copy .ensures, c .before .before .upper-coeffs .ensures)
     (assembled (args .m) (args .y) (args .out .now) (args .u0 .now) (listed (args .m + 1) (upperCoefficient (args .m) (args .dy) (args .u0 .now) (args .u1 .now)))
-    (start .pre .3) (start .pre .1) (length-listed (args .m + 1) _))
+    (start .pre .4) (start .pre .2) (length-listed (args .m + 1) _))
 
 pub write-segment-coeffs-spec : {M : Type 1} → statement M
 write-segment-coeffs-spec =
     tie.close
     (tie.spec
-    add-upper
-    slice-write-out
-    sub-copy
-    part-copy-start
+    (λ c. search needs)
+    (λ c. search needs)
+    (λ c. search needs)
+    (λ c. search needs)
     part-copy-end
-    copy-requires
-    add-upper-coeffs
-    add-upper-coeffs-2
-    mul-upper-coeffs
-    sub-upper-coeffs
-    part-upper-coeffs-start
+    (λ c κs. search needs)
+    (λ c. search needs)
+    (λ c. search needs)
+    (λ c. search needs)
+    (λ c. search needs)
+    (λ c. search needs)
     part-upper-coeffs-end
     upper-coeffs-requires
     same-length

@@ -5,15 +5,6 @@ use borrow.Author.Needs.{needs}
 use Rattle.build_segments.proofs.tables.for_order.Statement.{statement}
 use Rattle.build_segments.proofs.tables.for_order.Tie as tie
 
-m1-requires : tie.Need-m1-requires
-m1-requires c κs = search needs
-
-m2-requires : tie.Need-m2-requires
-m2-requires c κs = search needs
-
-m3-requires : tie.Need-m3-requires
-m3-requires c κs = search needs
-
 returns : tie.Need-returns
 returns c = rw (c .before .if1 .taken) (c .m1 .ensures)
 
@@ -27,4 +18,4 @@ returns-3 c =
 
 pub for-order-spec : {M : Type 1} → statement M
 for-order-spec =
-    tie.close (tie.spec m1-requires m2-requires m3-requires returns returns-2 returns-3)
+    tie.close (tie.spec (λ c κs. search needs) (λ c κs. search needs) (λ c κs. search needs) returns returns-2 returns-3)

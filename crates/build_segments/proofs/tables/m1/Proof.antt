@@ -4,23 +4,18 @@ use lib.Ieee.{neg, ofBits, ofInt}
 use Rattle.rules.specs.Lists.{joined, listed}
 use Rattle.rules.specs.Tables.{m1, forOrder}
 use Rattle.rules.specs.Solve.{matrix}
-use Rattle.build_block.specs.Kept.{transposed}
+use Rattle.build_block.specs.Columns.{transposed}
 use Rattle.build_segments.proofs.tables.m1.Statement.{statement}
 use Rattle.build_segments.proofs.tables.m1.Tie as tie
 
 returns : tie.Need-returns
 unfolding neg ofBits ofInt joined listed forOrder m1 matrix transposed
 returns c = record {
-  a-is = refl;
-  b-is = refl;
-  c-is = refl;
-  r-is = refl;
-  h-is = refl;
-  a-length = refl;
-  b-length = refl;
-  c-length = refl;
-  r-length = refl;
-  h-length = refl;
+  a = record { is = refl; sized = refl };
+  b = record { is = refl; sized = refl };
+  c = record { is = refl; sized = refl };
+  r = record { is = refl; sized = refl };
+  h = record { is = refl; sized = refl };
 }
 
 pub m1-spec : {M : Type 1} → statement M

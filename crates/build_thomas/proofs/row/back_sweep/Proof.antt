@@ -36,12 +36,6 @@ loop-holds c =
       λ w start end h. sym (take-append-drop (n * args .m) solved) ∙ ap (λ (xs : List Float). xs ++ drop (n * args .m) solved) (h ∙ swept-start (args .m) n w start end),
     )
 
-sub-i : tie.Need-sub-i Inv-loop μ-loop
-sub-i c = search needs
-
-sub-back-step : tie.Need-sub-back-step Inv-loop μ-loop
-sub-back-step c = search needs
-
 back-step-requires : tie.Need-back-step-requires Inv-loop μ-loop
 back-step-requires c κs =
     let at-loop = c .before .before .before in
@@ -57,9 +51,6 @@ back-step-requires c κs =
       at-loop .loop .inv .1,
       omega (arith, mul-le-mul-right m last, at-loop .loop .inv .2, start .pre .3),
     )
-
-loop-less : tie.Need-loop-less Inv-loop μ-loop
-loop-less c = search needs
 
 loop-again : tie.Need-loop-again Inv-loop μ-loop
 loop-again c =
@@ -80,12 +71,6 @@ loop-again c =
           ∙ swept-step m n w start end p solved (omega arith),
     )
 
-same-length : tie.Need-same-length Inv-loop μ-loop
-same-length c = search needs
-
-same-length-2 : tie.Need-same-length-2 Inv-loop μ-loop
-same-length-2 c = search needs
-
 returns : tie.Need-returns Inv-loop μ-loop
 returns c =
     let at-loop = c .before in
@@ -101,11 +86,11 @@ back-sweep-spec =
     Inv-loop
     μ-loop
     loop-holds
-    sub-i
-    sub-back-step
+    (λ c. search needs)
+    (λ c. search needs)
     back-step-requires
-    loop-less
+    (λ c. search needs)
     loop-again
-    same-length
-    same-length-2
+    (λ c. search needs)
+    (λ c. search needs)
     returns)

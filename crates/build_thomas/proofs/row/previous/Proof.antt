@@ -11,16 +11,10 @@ returns c =
     let args = c .before .args in
     rw (c .if1 .taken) (sym (zero-mul (args .m)))
 
-sub-result : tie.Need-sub-result
-sub-result c = search needs
-
 mul-result : tie.Need-mul-result
 mul-result c =
     let args = c .before .args in
     omega (arith, mul-le-mul-right (args .m) (sub-le (args .i) 1))
 
-returns-2 : tie.Need-returns-2
-returns-2 c = search needs
-
 pub previous-spec : {M : Type 1} → statement M
-previous-spec = tie.close (tie.spec returns sub-result mul-result returns-2)
+previous-spec = tie.close (tie.spec returns (λ c. search needs) mul-result (λ c. search needs))

@@ -9,16 +9,10 @@ returns c =
     let args = c .before .before .before .before .args in
     rw (not-true (args .on) (c .if1 .taken))
 
-subtract-product-requires : tie.Need-subtract-product-requires
-subtract-product-requires c κs = search needs
-
-same-length : tie.Need-same-length
-same-length c = search needs
-
 returns-2 : tie.Need-returns-2
 returns-2 c =
     let else = c .before .before .before .before in
     rw (not-false (else .before .before .before .before .args .on) (else .if1 .left)) (c .before .before .subtract-product .ensures)
 
 pub subtract-where-spec : {M : Type 1} → statement M
-subtract-where-spec = tie.close (tie.spec returns subtract-product-requires same-length returns-2)
+subtract-where-spec = tie.close (tie.spec returns (λ c κs. search needs) (λ c. search needs) returns-2)

@@ -2,17 +2,11 @@
 use borrow.Author.Needs.{needs}
 use mathlib.Core.Path.{_∙_}
 use Rattle.rules.specs.Build.{finiteState}
-use Rattle.questions.proofs.finite_state.Statement.{statement}
-use Rattle.questions.proofs.finite_state.Tie as tie
+use Rattle.build_questions.proofs.finite_state.Statement.{statement}
+use Rattle.build_questions.proofs.finite_state.Tie as tie
 
 enum-told : tie.Need-enum-told
 enum-told c = search needs
-
-enum-told-2 : tie.Need-enum-told-2
-enum-told-2 c = search needs
-
-all-finite-requires : tie.Need-all-finite-requires
-all-finite-requires c κs = search needs
 
 returns : tie.Need-returns
 unfolding finiteState
@@ -24,4 +18,4 @@ returns-2 c = c .all-finite .ensures ∙ simp (c .before .enum-told2 .given .1)
 
 pub finite-state-spec : {M : Type 1} → statement M
 finite-state-spec =
-    tie.close (tie.spec enum-told enum-told-2 all-finite-requires returns returns-2)
+    tie.close (tie.spec enum-told (λ c. search needs) (λ c κs. search needs) returns returns-2)

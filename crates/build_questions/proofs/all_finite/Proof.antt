@@ -7,9 +7,9 @@ use borrow.Author.Needs.{needs}
 use Rattle.rules.specs.Floats.{finite}
 use Rattle.rules.specs.Lists.{all}
 use Rattle.rules.proofs.Lists.{all-none-left, all-next}
 use Rattle.questions.proofs.Tests.{no, yes}
-use Rattle.questions.proofs.all_finite.Statement.{statement}
-use Rattle.questions.proofs.all_finite.Tie as tie
+use Rattle.build_questions.proofs.all_finite.Statement.{statement}
+use Rattle.build_questions.proofs.all_finite.Tie as tie
 
 abbrev Inv-loop : tie.InvT-loop
 Inv-loop numbers i₀ i = (i ≤ length numbers) × (all finite numbers ≡ all finite (drop i numbers))
@@ -20,25 +20,10 @@ abbrev μ-loop : tie.MeasureT-loop
 loop-holds : tie.Need-loop-holds Inv-loop μ-loop
 loop-holds c = (omega arith, refl)
 
-mul-is-finite : tie.Need-mul-is-finite Inv-loop μ-loop
-mul-is-finite c = search needs
-
-shared-slice-read-is-finite : tie.Need-shared-slice-read-is-finite Inv-loop μ-loop
-shared-slice-read-is-finite c = search needs
-
-is-finite-requires : tie.Need-is-finite-requires Inv-loop μ-loop
-is-finite-requires c κs = search needs
-
 returns : tie.Need-returns Inv-loop μ-loop
 returns c =
     let w = c .before .before .before in
     sym (w .before .loop .inv .1 ∙ all-next finite _ _ _ (w .loop-test .taken) (no (c .before .is-finite .ensures) (c .if1 .taken)))
-
-add-i : tie.Need-add-i Inv-loop μ-loop
-add-i c = omega arith
-
-loop-less : tie.Need-loop-less Inv-loop μ-loop
-loop-less c = omega arith
 
 loop-again : tie.Need-loop-again Inv-loop μ-loop
 loop-again c =
@@ -57,11 +42,11 @@ all-finite-spec =
     Inv-loop
     μ-loop
     loop-holds
-    mul-is-finite
-    shared-slice-read-is-finite
-    is-finite-requires
+    (λ c. search needs)
+    (λ c. search needs)
+    (λ c κs. search needs)
     returns
-    add-i
-    loop-less
+    (λ c. omega arith)
+    (λ c. omega arith)
     loop-again
     returns-2)

@@ -1,7 +1,7 @@
 -- A level below k does not write derivative k. Assumes nothing.
 use borrow.Author.Tests.{le-leb, lt-leb}
-use Rattle.questions.proofs.valid_length.Statement.{statement}
-use Rattle.questions.proofs.valid_length.Tie as tie
+use Rattle.query_questions.proofs.valid_length.Statement.{statement}
+use Rattle.query_questions.proofs.valid_length.Tie as tie
 
 returns : tie.Need-returns
 returns c = simp (lt-leb _ _ (c .if1 .taken))

@@ -13,8 +13,8 @@ use borrow.Author.Tests.{ne-eqb, eq-eqb}
 use Rattle.rules.specs.declared.BoundaryState.{BoundaryState}
 use Rattle.rules.specs.declared.BoundaryState.the-variants.{Given}
 use Rattle.rules.specs.Build.{validState}
-use Rattle.questions.proofs.valid_state.Statement.{statement}
-use Rattle.questions.proofs.valid_state.Tie as tie
+use Rattle.build_questions.proofs.valid_state.Statement.{statement}
+use Rattle.build_questions.proofs.valid_state.Tie as tie
 
 -- a state that is given, with the tests of the definition one after the other
 module _ (axes m : ℕ) (s : BoundaryState) (numbers : List Float) {rows columns : ℕ} {p : Bool} (e : s ≡ Given rows columns p) where
@@ -32,9 +32,6 @@ module _ (axes m : ℕ) (s : BoundaryState) (numbers : List Float) {rows columns
 
 enum-told : tie.Need-enum-told
 enum-told c = search needs
-
-enum-known-state : tie.Need-enum-known-state
-enum-known-state c = search needs
 
 returns : tie.Need-returns
 returns c =
@@ -64,4 +61,4 @@ returns-4 c =
 pub valid-state-spec : {M : Type 1} → statement M
 valid-state-spec =
     tie.close
-    (tie.spec enum-told enum-known-state returns returns-2 mul-result returns-3 returns-4)
+    (tie.spec enum-told (λ c. search needs) returns returns-2 mul-result returns-3 returns-4)

@@ -1,20 +1,11 @@
--- How the code keeps the matrices of a build. Assumes nothing.
-use mathlib.Core.Path.{_≡_}
+-- The lists that the matrices of a build's inner nodes are kept in. Assumes nothing.
 use Prim.Native.Nat.{ℕ, _*_, _≤_}
 use mathlib.Core.List.{List}
 use lib.ListN.{length}
 use lib.Ieee.{Float}
 use Rattle.rules.specs.Lists.{joined}
-use Rattle.rules.specs.Tables.{A, B, C}
 use Rattle.rules.specs.Solve.{nodeFactors, solvedC}
-use Rattle.build_block.specs.Kept.{transposed}
-
--- the tables of an order: A and C by columns, B by rows
-pub record Tables (m : ℕ) (a b c : List Float) : Type 0 where
-  pub a-is : a ≡ transposed m (A m)
-  pub b-is : b ≡ B m
-  pub c-is : c ≡ transposed m (C m)
-  pub b-length : length (B m) ≡ m * m
+use Rattle.build_block.specs.Columns.{transposed}
 
 -- of the first n inner nodes, one after the other: the factored matrices, their rows, and solved C by columns
 unfoldable pub nodeEntries : ℕ → ℕ → List Float

@@ -1,32 +1,20 @@
 -- Each way out is the first buffer that does not fit, or the last one's answer. Assumes nothing.
 use borrow.Author.Needs.{needs}
 use Rattle.questions.proofs.Tests.{no, yes, both, last-decides}
-use Rattle.questions.proofs.valid_lengths.Statement.{statement}
-use Rattle.questions.proofs.valid_lengths.Tie as tie
-
-valid-length-requires : tie.Need-valid-length-requires
-valid-length-requires c κs = search needs
+use Rattle.query_questions.proofs.valid_lengths.Statement.{statement}
+use Rattle.query_questions.proofs.valid_lengths.Tie as tie
 
 returns : tie.Need-returns
 returns c = simp (no (c .before .valid-length .ensures) (c .if1 .taken))
 
-valid-length-requires-2 : tie.Need-valid-length-requires-2
-valid-length-requires-2 c κs = search needs
-
 returns-2 : tie.Need-returns-2
 returns-2 c = let d = c .before .before in simp (yes (d .before .valid-length .ensures) (d .if1 .left), no (c .before .valid-length2 .ensures) (c .if2 .taken))
-
-valid-length-requires-3 : tie.Need-valid-length-requires-3
-valid-length-requires-3 c κs = search needs
 
 returns-3 : tie.Need-returns-3
 returns-3 c =
     let e = c .before .before in
     let d = e .before .before in
     simp (yes (d .before .valid-length .ensures) (d .if1 .left), yes (e .before .valid-length2 .ensures) (e .if2 .left), no (c .before .valid-length3 .ensures) (c .if3 .taken))
-
-valid-length-requires-4 : tie.Need-valid-length-requires-4
-valid-length-requires-4 c κs = search needs
 
 returns-4 : tie.Need-returns-4
 returns-4 c =
@@ -39,11 +27,11 @@ pub valid-lengths-spec : {M : Type 1} → statement M
 valid-lengths-spec =
     tie.close
     (tie.spec
-    valid-length-requires
+    (λ c κs. search needs)
     returns
-    valid-length-requires-2
+    (λ c κs. search needs)
     returns-2
-    valid-length-requires-3
+    (λ c κs. search needs)
     returns-3
-    valid-length-requires-4
+    (λ c κs. search needs)
     returns-4)

@@ -1,8 +1,8 @@
 -- Each way out says which of the three tests passed, or that the last decides. Assumes nothing.
 use borrow.Author.Tests.{ne-eqb}
 use Rattle.rules.specs.Query.{validLevel}
-use Rattle.questions.proofs.valid_level.Statement.{statement}
-use Rattle.questions.proofs.valid_level.Tie as tie
+use Rattle.query_questions.proofs.valid_level.Statement.{statement}
+use Rattle.query_questions.proofs.valid_level.Tie as tie
 
 returns : tie.Need-returns
 unfolding validLevel

@@ -16,9 +16,9 @@ use Rattle.rules.specs.Build.{validAxes}
 use Rattle.rules.specs.Query.{pathQuestions, bufferQuestions}
 use Rattle.rules.proofs.Questions.{yes-to, no-to}
 use Rattle.rules.proofs.Build.{by-order}
 use Rattle.questions.proofs.Tests.{no, yes, both, last-decides}
-use Rattle.questions.proofs.query_questions.Statement.{statement}
-use Rattle.questions.proofs.query_questions.Tie as tie
+use Rattle.query_questions.proofs.query_questions.Statement.{statement}
+use Rattle.query_questions.proofs.query_questions.Tie as tie
 
 -- a place behind the first call, and what was asked there
 abbrev Place : Type 0
@@ -94,9 +94,6 @@ segments-bound c = mul-le-mul (c .if5 .left) (c .before .before .if3 .left)
 table-bound : (c : tie.Else5) → let p = start (c .before .before .before .before .before) .args .path in p .axes * p .segments * (p .order + 1) ≤ 8 * 256 * 8
 table-bound c = let h = order-bound c in mul-le-mul {m₂ = 8} (segments-bound c) (omega arith)
 
-valid-order-requires : tie.Need-valid-order-requires
-valid-order-requires c κs = search needs
-
 returns : tie.Need-returns
 unfolding pathQuestions bufferQuestions
 returns c = sym (no-to _ (no (c .before .valid-order .ensures) (c .if1 .taken)))
@@ -117,12 +114,6 @@ returns-5 : tie.Need-returns-5
 unfolding pathQuestions bufferQuestions validAxes
 returns-5 c = sym (past-3 (c .before .before) ∙ no-to _ (rw (le-leb 1 _ (c .before .if4 .left), lt-leb _ 8 (c .if5 .taken))))
 
-valid-range-requires : tie.Need-valid-range-requires
-valid-range-requires c κs = search needs
-
-inv-ds-requires : tie.Need-inv-ds-requires
-inv-ds-requires c κs = search needs
-
 returns-7 : tie.Need-returns-7
 unfolding pathQuestions bufferQuestions
 returns-7 c =
@@ -142,15 +133,9 @@ returns-8 : tie.Need-returns-8
 unfolding pathQuestions bufferQuestions
 returns-8 c = sym (past-5 (c .before) ∙ no-to _ (ne-eqb _ _ (c .if8 .taken)))
 
-valid-level-requires : tie.Need-valid-level-requires
-valid-level-requires c κs = search needs
-
 returns-9 : tie.Need-returns-9
 unfolding pathQuestions bufferQuestions
 returns-9 c = sym (past-6 (c .before .before) ∙ no-to _ (no (c .before .valid-level .ensures) (c .if9 .taken)))
-
-valid-lengths-requires : tie.Need-valid-lengths-requires
-valid-lengths-requires c κs = search needs
 
 returns-10 : tie.Need-returns-10
 unfolding pathQuestions bufferQuestions
@@ -164,22 +149,22 @@ pub query-questions-spec : {M : Type 1} → statement M
 query-questions-spec =
     tie.close
     (tie.spec
-    valid-order-requires
+    (λ c κs. search needs)
     returns
     returns-2
     returns-3
     returns-4
     returns-5
-    valid-range-requires
+    (λ c κs. search needs)
     returns-6
-    inv-ds-requires
+    (λ c κs. search needs)
     returns-7
     mul-if8
     add-if8
     mul-if8-2
     returns-8
-    valid-level-requires
+    (λ c κs. search needs)
     returns-9
-    valid-lengths-requires
+    (λ c κs. search needs)
     returns-10
     returns-11)

@@ -13,10 +13,10 @@ use Rattle.rules.specs.Questions.{Question, firstNo}
 use Rattle.rules.specs.Build.{validAxes, inputQuestions}
 use Rattle.rules.proofs.Questions.{yes-to, no-to}
 use Rattle.rules.proofs.Build.{by-order}
-use Rattle.questions.specs.Input.{inputOf}
+use Rattle.rules.specs.Build.{inputOf}
 use Rattle.questions.proofs.Tests.{no, yes}
-use Rattle.questions.proofs.build_questions.Statement.{statement}
-use Rattle.questions.proofs.build_questions.Tie as tie
+use Rattle.build_questions.proofs.build_questions.Statement.{statement}
+use Rattle.build_questions.proofs.build_questions.Tie as tie
 
 -- a place behind the first call, and what was asked there
 abbrev Place : Type 0
@@ -93,9 +93,6 @@ segments-bound c = let h = c .before .before .if3 .left in mul-le-mul {m₂ = 25
 table-bound : (c : tie.Else5) → let a = start (c .before .before .before .before .before) .args in a .axes * (a .points - 1) * (a .config .order + 1) ≤ 8 * 256 * 8
 table-bound c = let h = order-bounds c in mul-le-mul {m₂ = 8} (segments-bound c) (omega arith)
 
-valid-order-requires : tie.Need-valid-order-requires
-valid-order-requires c κs = search needs
-
 returns : tie.Need-returns
 unfolding inputQuestions
 returns c = sym (no-to _ (no (c .before .valid-order .ensures) (c .if1 .taken)))
@@ -140,9 +137,6 @@ returns-8 : tie.Need-returns-8
 unfolding inputQuestions
 returns-8 c = sym (past-6 (c .before .before) ∙ no-to _ (no (c .before .valid-state2 .ensures) (c .if8 .taken)))
 
-sub-segments : tie.Need-sub-segments
-sub-segments c = search needs
-
 mul-if9 : tie.Need-mul-if9
 mul-if9 c = let h = segments-bound (c .before .before .before .before .before) in record { fits = omega arith }
 
@@ -156,31 +150,19 @@ returns-9 : tie.Need-returns-9
 unfolding inputQuestions
 returns-9 c = sym (past-7 (c .before) ∙ no-to _ (ne-eqb _ _ (c .if9 .taken)))
 
-valid-range-requires : tie.Need-valid-range-requires
-valid-range-requires c κs = search needs
-
 returns-10 : tie.Need-returns-10
 unfolding inputQuestions
 returns-10 c = sym (past-8 (c .before .before) ∙ no-to _ (no (c .before .valid-range .ensures) (c .if10 .taken)))
 
-all-finite-requires : tie.Need-all-finite-requires
-all-finite-requires c κs = search needs
-
 returns-11 : tie.Need-returns-11
 unfolding inputQuestions
 returns-11 c = sym (past-9 (c .before .before) ∙ no-to _ (rw (no (c .before .all-finite .ensures) (c .if11 .taken))))
-
-finite-state-requires : tie.Need-finite-state-requires
-finite-state-requires c κs = search needs
 
 returns-12 : tie.Need-returns-12
 unfolding inputQuestions
 returns-12 c =
     let d = c .before .before in
     sym (past-9 (d .before .before) ∙ no-to _ (rw (yes (d .before .all-finite .ensures) (d .if11 .left), no (c .before .finite-state .ensures) (c .if12 .taken))))
-
-finite-state-requires-2 : tie.Need-finite-state-requires-2
-finite-state-requires-2 c κs = search needs
 
 returns-13 : tie.Need-returns-13
 unfolding inputQuestions
@@ -197,7 +179,7 @@ pub build-questions-spec : {M : Type 1} → statement M
 build-questions-spec =
     tie.close
     (tie.spec
-    valid-order-requires
+    (λ c κs. search needs)
     returns
     returns-2
     returns-3
@@ -210,17 +192,17 @@ build-questions-spec =
     returns-7
     valid-state-requires-2
     returns-8
-    sub-segments
+    (λ c. search needs)
     mul-if9
     add-if9
     mul-if9-2
     returns-9
-    valid-range-requires
+    (λ c κs. search needs)
     returns-10
-    all-finite-requires
+    (λ c κs. search needs)
     returns-11
-    finite-state-requires
+    (λ c κs. search needs)
     returns-12
-    finite-state-requires-2
+    (λ c κs. search needs)
     returns-13
     returns-14)

@@ -1,0 +1,124 @@
+// Document 01's questions before a build, 1 to 9: those that are asked of what a caller gives. (Question
+// 10, whether every pivot is other than zero, is answered by factoring; see the crate `build_axes`.) They
+// look at the coefficient buffer's length alone, so that they can be asked without a buffer.
+ghost use mathlib.Core.Path.{_≡_};
+ghost use Prim.Native.Nat.{_≤_};
+ghost use Rattle.rules.specs.Floats.{finite};
+ghost use Rattle.rules.specs.Lists.{all};
+ghost use Rattle.rules.specs.Questions.{firstNo};
+ghost use Rattle.rules.specs.Build.{inputOf, validState, finiteState, inputQuestions};
+use rules::BoundaryState;
+use rules::SplineConfig;
+
+// Question 6, of a state with so many numbers beside it.
+fn valid_state(axes: usize, m: usize, state: BoundaryState, numbers: &[f64]) -> bool
+    requires { ⌜ (axes ≤ 8) × (m ≤ 3) ⌝ }
+    ensures { λ r. ⌜ r ≡ validState axes m state (now (numbers .entry)) ⌝ }
+{
+    match state {
+        BoundaryState::None => true,
+        BoundaryState::Given {
+            rows,
+            columns,
+            per_unit_of_s: _,
+        } => {
+            if rows != axes {
+                return false;
+            }
+            if columns != m {
+                return false;
+            }
+            numbers.len() == axes * m
+        }
+    }
+}
+
+// Question 9, of a list.
+fn all_finite(numbers: &[f64]) -> bool
+    ensures { λ r. ⌜ r ≡ all finite (now (numbers .entry)) ⌝ }
+{
+    let mut i = 0;
+    while i < numbers.len() {
+        if !questions::is_finite(numbers[i]) {
+            return false;
+        }
+        i += 1;
+    }
+    true
+}
+
+// Question 9, of a state.
+fn finite_state(state: BoundaryState, numbers: &[f64]) -> bool
+    ensures { λ r. ⌜ r ≡ finiteState state (now (numbers .entry)) ⌝ }
+{
+    match state {
+        BoundaryState::None => true,
+        BoundaryState::Given {
+            rows: _,
+            columns: _,
+            per_unit_of_s: _,
+        } => all_finite(numbers),
+    }
+}
+
+// The number of the first no, and 0 where all nine say yes.
+pub fn build_questions(
+    config: SplineConfig,
+    points: usize,
+    axes: usize,
+    waypoints: &[f64],
+    start: &[f64],
+    end: &[f64],
+    cells: usize,
+) -> u32
+    ensures { λ r. ⌜ (let b = inputOf config points axes (now (waypoints .entry)) (now (start .entry)) (now (end .entry)) in
+        r ≡ firstNo (inputQuestions b cells)) ⌝ }
+{
+    let order = config.order;
+    let start_state = config.start_state;
+    let end_state = config.end_state;
+    let s_min = config.s_min;
+    let s_max = config.s_max;
+    if !questions::valid_order(order) {
+        return 302; // question 1
+    }
+    if points < 2 {
+        return 304; // question 2
+    }
+    if 257 < points {
+        return 2; // question 3
+    }
+    if axes < 1 { // no axis
+        return 300; // question 4, too few
+    }
+    if 8 < axes {
+        return 300; // question 4, too many
+    }
+    if waypoints.len() != axes * points {
+        return 3; // question 5
+    }
+    let m = (order - 1) / 2;
+    if !valid_state(axes, m, start_state, start) {
+        return 303; // question 6, of the start
+    }
+    if !valid_state(axes, m, end_state, end) {
+        return 303; // question 6, of the end
+    }
+    let segments = points - 1;
+    if cells != axes * segments * (order + 1) {
+        return 2; // question 7
+    }
+    if !questions::valid_range(segments, s_min, s_max) {
+        return 301; // question 8
+    }
+    if !all_finite(waypoints) {
+        return 4; // question 9, of the waypoints
+    }
+    if !finite_state(start_state, start) {
+        return 4; // question 9, of the start
+    }
+    if !finite_state(end_state, end) {
+        return 4; // question 9, of the end
+    }
+    0 // every question says yes
+}
