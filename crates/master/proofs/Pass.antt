@@ -6,7 +6,7 @@ use mathlib.Core.Logic.{_⊎_, inl, inr}
 use Prim.Native.Nat.{ℕ, suc, _+_, _-_, _*_, _<_, _≤_}
 use native.Mathlib.Nat.{eq-or-lt-of-le}
 use native.Mathlib.Omega.{arith}
-use lib.Dec.{T, eqb, eqb→eq, leb→le}
+use lib.Dec.{T, eqb, eqb→eq, leb→le, lit≤}
 use lib.IntN.{ℤ}
 use lib.ListN.{length}
 use lib.Ieee.Fits.{and-i, and-l, and-r}
@@ -16,14 +16,14 @@ use Rattle.rules.specs.Lists.{all, every}
 use Rattle.rules.specs.Questions.{Question, ask, firstNo}
 use Rattle.rules.specs.Tables.{mOf}
 use Rattle.rules.specs.Master.{MasterSet, Equations, within, same, at, coefficient, atEnd, segments, meetsStart}
-use Rattle.rules.specs.Master.{MasterSays, masterQuestions, shapeQuestions, numberQuestions, masterNumber, masterSays, endpointEquations, jointEquations, checkMaster}
+use Rattle.rules.specs.Master.{MasterSays, masterQuestions, sizeQuestions, lengthQuestions, numberQuestions, masterNumber, masterSays, endpointEquations, jointEquations, checkMaster}
 use Rattle.law_rounding.proofs.Sums.{same-test}
 use Rattle.rules.proofs.Lists.{every-at, every-of}
 use Rattle.rules.proofs.Build.{by-order, coefficient-count}
 use Rattle.rules.proofs.Questions.{numbered, never, answerAt, said-yes}
 use Rattle.rules.proofs.Master.{same→eq, eq→same, to-equations, of-equations}
-use Rattle.master_equations.specs.Segment.{segmentMeets}
-use Rattle.master.specs.Pass.{questionsBefore, Shaped, meetsUpTo, passSays}
+use Rattle.master_equations.specs.Segment.{Shaped, segmentMeets}
+use Rattle.master.specs.Pass.{questionsBefore, meetsUpTo, passSays}
 
 -- ---- the questions
 
@@ -39,25 +39,28 @@ in-halves (ask false n ∷ qs) a b h = sym (ap (λ (t : Bool). cond t (cond b 0 
 
 -- the number of all questions, by that of the questions but for the table's numbers
 pub number-is : (s : MasterSet) → masterNumber s ≡ (let n = firstNo (questionsBefore s) in cond (eqb n 0) (cond (all within (s .table)) 0 4) n)
-unfolding masterNumber masterQuestions shapeQuestions numberQuestions questionsBefore
+unfolding masterNumber masterQuestions sizeQuestions lengthQuestions numberQuestions questionsBefore
 number-is s =
-    in-halves (shapeQuestions s) (all within (s .waypoints) && all within (s .start) && all within (s .end)) (all within (s .table)) tt
+    in-halves (sizeQuestions (s .order) (length (s .waypoints)) ++ lengthQuestions s)
+    (all within (s .waypoints) && all within (s .start) && all within (s .end)) (all within (s .table)) tt
 
 -- where those say yes, the lengths are as they have to be
-pub shaped : (s : MasterSet) → firstNo (questionsBefore s) ≡ 0 → Shaped (mOf (s .order)) (s .waypoints) (s .start) (s .end) (s .table)
-unfolding questionsBefore masterQuestions shapeQuestions numberQuestions
+pub shaped : (s : MasterSet) → firstNo (questionsBefore s) ≡ 0
+    → Shaped (mOf (s .order)) (s .waypoints) (s .end) (s .table) × (length (s .start) ≡ mOf (s .order))
+unfolding questionsBefore masterQuestions sizeQuestions lengthQuestions numberQuestions
 shaped s e =
     let yes : (k : ℕ) → T (answerAt (questionsBefore s) k) = said-yes (questionsBefore s) tt e in
-    let m-bounds = by-order (λ order. (1 ≤ mOf order) × (mOf order ≤ 3)) (omega arith, omega arith) (omega arith, omega arith) (omega arith, omega arith) (s .order) (yes 0) in
-    record {
-      least-m = m-bounds .0;
-      most-m = m-bounds .1;
-      least = leb→le 2 _ (yes 1);
-      most = leb→le _ 257 (yes 2);
-      start-is = eqb→eq _ _ (yes 3);
-      end-is = eqb→eq _ _ (yes 4);
-      table-is = eqb→eq _ _ (yes 5) ∙ ap (λ (k : ℕ). segments s * k) (sym (coefficient-count (s .order) (yes 0)));
-    }
+    let least-most = by-order (λ order. (1 ≤ mOf order) × (mOf order ≤ 3)) (lit≤ tt, lit≤ tt) (lit≤ tt, lit≤ tt) (lit≤ tt, lit≤ tt) (s .order) (yes 0) in (
+      record {
+        least-m = least-most .0;
+        most-m = least-most .1;
+        least = leb→le 2 _ (yes 1);
+        most = leb→le _ 257 (yes 2);
+        end-is = eqb→eq _ _ (yes 4);
+        table-is = eqb→eq _ _ (yes 5) ∙ ap (λ (k : ℕ). segments s * k) (sym (coefficient-count (s .order) (yes 0)));
+      },
+      eqb→eq _ _ (yes 3),
+    )
 
 -- ---- the equations
 
@@ -141,7 +144,7 @@ refused s {n} e h = rw (number-is s, ← e, ne-eqb n 0 h, ne-eqb n 0 h)
 -- and else the pass's answer is the check's
 pub passed : (s : MasterSet) → firstNo (questionsBefore s) ≡ 0 → passSays (mOf (s .order)) (s .waypoints) (s .start) (s .end) (s .table) ≡ checkMaster s
 unfolding passSays checkMaster
-passed s e = rw (number-is s, e, met-is s (shaped s e .least)) (answer (all within (s .table)) (endpointEquations s) (jointEquations s))
+passed s e = rw (number-is s, e, met-is s (shaped s e .0 .least)) (answer (all within (s .table)) (endpointEquations s) (jointEquations s))
   where
     answer : (t a b : Bool) → _≡_ {A = MasterSays} (record { refused = not t; number = cond t 0 4; good = t && (a && b) })
         (record { refused = not (eqb (cond t 0 4) 0); number = cond t 0 4; good = eqb (cond t 0 4) 0 && a && b })

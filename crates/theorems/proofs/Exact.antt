@@ -22,7 +22,7 @@ use Rattle.rules.specs.Lists.{all, every, listed, joined}
 use Rattle.rules.specs.Questions.{ask, firstNo}
 use Rattle.rules.specs.Tables.{mOf}
 use Rattle.rules.specs.Build.{BuildInput, buildNumber, validOrder, dy, segmentCoefficients, nodeNumbers, axisCoefficients, axisWaypoints, axisState}
-use Rattle.rules.specs.Master.{MasterSet, MasterSays, Equations, within, at, coefficient, masterQuestions, shapeQuestions, numberQuestions, masterNumber}
+use Rattle.rules.specs.Master.{MasterSet, MasterSays, Equations, within, at, coefficient, masterQuestions, sizeQuestions, lengthQuestions, numberQuestions, masterNumber}
 use Rattle.rules.specs.Master.{meetsJoints, endpointEquations, jointEquations, checkMaster, masterSays}
 use Rattle.rules.proofs.Lists.{all-at, all-of, length-listed}
 use Rattle.rules.proofs.Filling.{all-listed, listed-ext}
@@ -125,7 +125,7 @@ module _ (order : ℕ) (u v : Float) (left right : List Float) where
     endpoints = of-equations set equations .0
 
     number : masterNumber set ≡ cond (all within (set .table)) 0 4
-    unfolding masterNumber masterQuestions shapeQuestions numberQuestions firstNo
+    unfolding masterNumber masterQuestions sizeQuestions lengthQuestions numberQuestions firstNo
     number =
         rw (
           is-true (validOrder order) valid,

@@ -19,7 +19,7 @@ use Rattle.rules.specs.Floats.{_!_, +0, +1}
 use Rattle.rules.specs.Lists.{all}
 use Rattle.rules.specs.Tables.{mOf}
 use Rattle.rules.specs.Build.{BuildInput, validOrder, buildNumber, axisWaypoints}
-use Rattle.rules.specs.Master.{MasterSet, MasterSays, Equations, within, coefficient, binomial, sumℤ, atEnd, segments, masterQuestions, shapeQuestions, numberQuestions, masterNumber, checkMaster, masterSays}
+use Rattle.rules.specs.Master.{MasterSet, MasterSays, Equations, within, coefficient, binomial, sumℤ, atEnd, segments, masterQuestions, sizeQuestions, lengthQuestions, numberQuestions, masterNumber, checkMaster, masterSays}
 use Rattle.rules.specs.Query.{derivativeFactor, evalPoly}
 use Rattle.rules.proofs.Lists.{all-at, all-of, length-listed}
 use Rattle.rules.proofs.Questions.{said-yes}
@@ -46,11 +46,11 @@ module _ (s : MasterSet) (accepted : masterNumber s ≡ 0) where
   m = mOf (s .order)
 
   order-valid : T (validOrder (s .order))
-  unfolding masterNumber masterQuestions shapeQuestions numberQuestions
+  unfolding masterNumber masterQuestions sizeQuestions lengthQuestions numberQuestions
   order-valid = said-yes (masterQuestions s) tt accepted 0
 
   table-within : T (all within (s .table))
-  unfolding masterNumber masterQuestions shapeQuestions numberQuestions
+  unfolding masterNumber masterQuestions sizeQuestions lengthQuestions numberQuestions
   table-within =
       and-r (all within (s .waypoints) && all within (s .start) && all within (s .end)) (all within (s .table)) (said-yes (masterQuestions s) tt accepted 6)
 

@@ -15,14 +15,11 @@ given p = let a = p .args in setOf (a .order) (a .waypoints .now) (a .start .now
 all-yes : (c : tie.Else1) → firstNo (questionsBefore (given (c .before .before))) ≡ 0
 all-yes c = sym (c .before .master-questions .ensures) ∙ c .if1 .left
 
-master-questions-requires : tie.Need-master-questions-requires
-master-questions-requires c κs = search needs
-
 returns : tie.Need-returns
 returns c = refused (given (c .before .before)) (c .before .master-questions .ensures) (c .if1 .taken)
 
 sub-check-segments : tie.Need-sub-check-segments
-sub-check-segments c = let h = shaped (given (c .before .before)) (all-yes c) .least-m in omega arith
+sub-check-segments c = let h = shaped (given (c .before .before)) (all-yes c) .0 .least-m in omega arith
 
 check-segments-requires : tie.Need-check-segments-requires
 check-segments-requires c κs = shaped (given (c .before .before)) (all-yes c)
@@ -34,7 +31,7 @@ pub check-master-spec : {M : Type 1} → statement M
 check-master-spec =
     tie.close
     (tie.spec
-    master-questions-requires
+    (λ c κs. search needs)
     returns
     sub-check-segments
     check-segments-requires

@@ -16,7 +16,8 @@ use Rattle.law_rounding.proofs.Sums.{and-true}
 use Rattle.rules.proofs.Lists.{and-assoc, every-more}
 use Rattle.master_equations.specs.Segment.{segmentMeets}
 use Rattle.master.specs.Pass.{meetsUpTo, passSays}
-use Rattle.master.proofs.Parts.{left-next, inside, none-left, segment-shaped}
+use Rattle.master.proofs.Parts.{left-next, none-left}
+use Rattle.master_equations.proofs.Parts.{segment-inside}
 use Rattle.master_equations.proofs.Says.{segment-out, was-out, was-within, was-good}
 use Rattle.master.proofs.check_segments.Statement.{statement}
 use Rattle.master.proofs.check_segments.Tie as tie
@@ -58,13 +59,16 @@ answered c =
     let l = c .before .loop in
     let s = c .before .before .before in
     let n : length (s .args .waypoints .now) - 1 ≡ l .i = le-antisymm (c .loop-test .left) (l .inv .most) in
-    rw (l .inv .left ∙ none-left (s .pre) (l .inv .most) (c .loop-test .left), n, ← l .inv .met)
+    rw (l .inv .left ∙ none-left (s .pre .0) (l .inv .most) (c .loop-test .left), n, ← l .inv .met)
 
 sub-segments : tie.Need-sub-segments Inv-loop μ-loop
-sub-segments c = let h = c .pre .least in omega arith
+sub-segments c = let h = c .pre .0 .least in omega arith
 
 meets-start-requires : tie.Need-meets-start-requires Inv-loop μ-loop
-meets-start-requires c κs = let h = inside (c .pre) {i = 0} (let k = c .pre .least in omega arith) in (omega (arith, c .pre .start-is), omega (arith, h))
+meets-start-requires c κs =
+    let two = c .pre .0 .least in
+    let h = segment-inside (c .pre .0) {i = 0} (omega arith) in
+    (omega (arith, c .pre .1), omega (arith, h))
 
 loop-holds : tie.Need-loop-holds Inv-loop μ-loop
 loop-holds c =
@@ -72,10 +76,7 @@ loop-holds c =
     record { most = omega arith; met = c .meets-start .ensures (length w - 1) ∙ sym (no-segment _ w _ _ _); left = rw zero-mul }
 
 check-segment-requires : tie.Need-check-segment-requires Inv-loop μ-loop
-check-segment-requires c κs = segment-shaped (c .before .before .before .pre) (c .loop-test .taken)
-
-is-refused-requires : tie.Need-is-refused-requires Inv-loop μ-loop
-is-refused-requires c κs = search needs
+check-segment-requires c κs = (c .before .before .before .pre .0, c .loop-test .taken)
 
 -- where a segment's answer is not a refusal
 went-on : (c : tie.Else1 Inv-loop μ-loop) → masterSays (c .before .before .check-segment .result) .refused ≡ false
@@ -90,9 +91,6 @@ returns c =
     said .check-segment .ensures
     ∙ segment-out _ _ _ _ _ _ out
     ∙ sym (out-of-range _ _ _ _ _ (d .before .loop .inv .left ∙ left-next (s .args .m) (s .args .table .now) _ out))
-
-is-yes-requires : tie.Need-is-yes-requires Inv-loop μ-loop
-is-yes-requires c κs = search needs
 
 add-i : tie.Need-add-i Inv-loop μ-loop
 add-i c = let h = c .before .before .before .before .loop-test .taken in omega arith
@@ -133,9 +131,9 @@ check-segments-spec =
     meets-start-requires
     loop-holds
     check-segment-requires
-    is-refused-requires
+    (λ c κs. search needs)
     returns
-    is-yes-requires
+    (λ c κs. search needs)
     add-i
     loop-less
     loop-again

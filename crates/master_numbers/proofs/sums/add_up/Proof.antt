@@ -1,4 +1,4 @@
--- `master_equations::sums::add_up` meets its contract. The loop's invariant, `Adding`, and its turn stand in proofs/Horner.antt. Assumes nothing.
+-- `master_numbers::sums::add_up` meets its contract. The loop's invariant, `Adding`, and its turn stand in proofs/Horner.antt. Assumes nothing.
 use mathlib.Core.Path.{_≡_, ap₂, _∙_}
 use Prim.Native.Nat.{_+_, _-_, _<_}
 use native.Mathlib.Omega.{arith}
@@ -8,11 +8,11 @@ use lib.ListN.{length}
 use mir.Syntax.{w64}
 use mir.Val.{SFits, toZ, ofZ}
 use Rattle.rules.specs.Master.{at}
-use Rattle.master_equations.specs.Segment.{sumFrom}
-use Rattle.master_equations.proofs.Signed.{as-read, fits}
-use Rattle.master_equations.proofs.Horner.{Adding, none-added, next-sum, one-added, all-added}
-use Rattle.master_equations.proofs.sums.add_up.Statement.{statement}
-use Rattle.master_equations.proofs.sums.add_up.Tie as tie
+use Rattle.master_numbers.specs.Sums.{sumFrom}
+use Rattle.master_numbers.proofs.Signed.{as-read, fits}
+use Rattle.master_numbers.proofs.Horner.{Adding, none-added, next-sum, one-added, all-added}
+use Rattle.master_numbers.proofs.sums.add_up.Statement.{statement}
+use Rattle.master_numbers.proofs.sums.add_up.Tie as tie
 
 abbrev Inv-loop : tie.InvT-loop
 Inv-loop b₀ first last k₀ b k = Adding first last b₀ k b
@@ -45,35 +45,14 @@ added c =
 loop-holds : tie.Need-loop-holds Inv-loop μ-loop
 loop-holds c = none-added _ _ _ (c .pre .0)
 
-sub-k : tie.Need-sub-k Inv-loop μ-loop
-sub-k c = search needs
-
-mul-b : tie.Need-mul-b Inv-loop μ-loop
-mul-b c = search needs
-
-slice-copy-out-b : tie.Need-slice-copy-out-b Inv-loop μ-loop
-slice-copy-out-b c = omega (arith, short (c .before))
-
 add-b : tie.Need-add-b Inv-loop μ-loop
 add-b c = record { fits = omega (arith, short (c .before .before)) }
 
 mul-b-2 : tie.Need-mul-b-2 Inv-loop μ-loop
 mul-b-2 c = record { fits = omega (arith, short (c .before .before)) }
 
-slice-copy-out-b-2 : tie.Need-slice-copy-out-b-2 Inv-loop μ-loop
-slice-copy-out-b-2 c = omega (arith, c .before .loop-test .taken, short (c .before .before))
-
 add-b-2 : tie.Need-add-b-2 Inv-loop μ-loop
 add-b-2 c = added c
-
-mul-t14 : tie.Need-mul-t14 Inv-loop μ-loop
-mul-t14 c = search needs
-
-slice-set-from-b : tie.Need-slice-set-from-b Inv-loop μ-loop
-slice-set-from-b c = omega (arith, short (c .before .before .before))
-
-loop-less : tie.Need-loop-less Inv-loop μ-loop
-loop-less c = omega arith
 
 loop-again : tie.Need-loop-again Inv-loop μ-loop
 loop-again c =
@@ -93,16 +72,16 @@ add-up-spec =
     Inv-loop
     μ-loop
     loop-holds
-    sub-k
-    mul-b
-    slice-copy-out-b
+    (λ c. search needs)
+    (λ c. search needs)
+    (λ c. omega (arith, short (c .before)))
     add-b
     mul-b-2
-    slice-copy-out-b-2
+    (λ c. omega (arith, c .before .loop-test .taken, short (c .before .before)))
     add-b-2
-    mul-t14
-    slice-set-from-b
-    loop-less
+    (λ c. search needs)
+    (λ c. omega (arith, short (c .before .before .before)))
+    (λ c. omega arith)
     loop-again
     same-length
     returns)

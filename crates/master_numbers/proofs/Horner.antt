@@ -16,7 +16,7 @@ use Rattle.rules.specs.Lists.{every}
 use Rattle.rules.specs.Master.{at, coefficient, atEnd, binomial, sumℤ, within}
 use Rattle.rules.proofs.Lists.{below-suc, every-at}
 use Rattle.theorems.proofs.Sums.{sum-same, sum-add, sum-split, sum-first, sum-zero}
-use Rattle.master_equations.specs.Segment.{Summable, AddedUp, sumFrom}
+use Rattle.master_numbers.specs.Sums.{Summable, AddedUp, sumFrom}
 
 -- ---- binomials
 
