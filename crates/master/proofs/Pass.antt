@@ -16,7 +16,8 @@ use Rattle.rules.specs.Lists.{all, every}
 use Rattle.rules.specs.Questions.{Question, ask, firstNo}
 use Rattle.rules.specs.Tables.{mOf}
 use Rattle.rules.specs.Master.{MasterSet, Equations, within, same, at, coefficient, atEnd, segments, meetsStart}
-use Rattle.rules.specs.Master.{MasterSays, masterQuestions, sizeQuestions, lengthQuestions, numberQuestions, masterNumber, masterSays, endpointEquations, jointEquations, checkMaster}
+use Rattle.rules.specs.Master.{MasterSays, masterQuestions, sizeQuestions, lengthQuestions, numberQuestions, masterNumber, masterSays}
+use Rattle.rules.specs.Master.{endpointEquations, jointEquations, checkMaster}
 use Rattle.law_rounding.proofs.Sums.{same-test}
 use Rattle.rules.proofs.Lists.{every-at, every-of}
 use Rattle.rules.proofs.Build.{by-order, coefficient-count}
@@ -122,7 +123,10 @@ module _ (s : MasterSet) (two : 2 ≤ length (s .waypoints)) where
   unfolding meetsUpTo segmentMeets meetsStart
   from q =
       and-i (meetsStart m n (s .table) (s .start)) (every n _) (every-of m _ (λ r h. eq→same _ _ (q .start r h)))
-      (every-of n _ (λ i h. and-i (left i && right i) (ended i) (and-i (left i) (right i) (eq→same _ _ (q .left i h)) (eq→same _ _ (q .right i h))) (last-or-before i (eq-or-lt-of-le (omega arith)))))
+      (every-of n _ (λ i h.
+      and-i (left i && right i) (ended i)
+      (and-i (left i) (right i) (eq→same _ _ (q .left i h)) (eq→same _ _ (q .right i h)))
+      (last-or-before i (eq-or-lt-of-le (omega arith)))))
     where
       last-or-before : (i : ℕ) → (i ≡ n - 1) ⊎ (i < n - 1) → T (ended i)
       last-or-before i (inl e) = subst (λ (j : ℕ). T (ended j)) (sym e) (subst T (sym ended-last) (every-of m _ (λ r k. eq→same _ _ (q .end r k))))

@@ -30,7 +30,9 @@ module _ {m : ℕ} {w end table : List ℤ} (s : Shaped m w end table) {i : ℕ}
 
   -- no table is so long that a place in it would not fit
   pub place-most : i * (2 * m + 2) + (2 * m + 2) ≤ 256 * 8
-  place-most = le-trans (part-inside (2 * m + 2) {n = 256} (omega (arith, most-segments))) (mul-le-mul {n₂ = 256} {m₂ = 8} (omega arith) (omega (arith, s .most-m)))
+  place-most =
+      let few = s .most-m in
+      le-trans (part-inside (2 * m + 2) {n = 256} (omega (arith, most-segments))) (mul-le-mul {n₂ = 256} {m₂ = 8} (omega arith) (omega arith))
 
   -- of a segment in range the sums can be taken
   pub summable : all within (segmentPart m table i) ≡ true → Summable m table i

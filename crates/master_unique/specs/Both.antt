@@ -1,6 +1,5 @@
 -- The check of two sets: what its two answers say together. Assumes nothing.
-use Prim.Native.Nat.{ℕ}
-use mathlib.Core.Bool.{Bool, cond, _&&_, _||_}
+use mathlib.Core.Bool.{cond, _&&_, _||_}
 use Rattle.rules.specs.Master.{MasterSet, MasterSays, checkMaster}
 
 -- Refused where either is, with the number of the first that is. Else yes where both say yes, and no where one says no.

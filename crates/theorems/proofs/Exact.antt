@@ -22,7 +22,8 @@ use Rattle.rules.specs.Lists.{all, every, listed, joined}
 use Rattle.rules.specs.Questions.{ask, firstNo}
 use Rattle.rules.specs.Tables.{mOf}
 use Rattle.rules.specs.Build.{BuildInput, buildNumber, validOrder, dy, segmentCoefficients, nodeNumbers, axisCoefficients, axisWaypoints, axisState}
-use Rattle.rules.specs.Master.{MasterSet, MasterSays, Equations, within, at, coefficient, masterQuestions, sizeQuestions, lengthQuestions, numberQuestions, masterNumber}
+use Rattle.rules.specs.Master.{MasterSet, MasterSays, Equations, within, at, coefficient}
+use Rattle.rules.specs.Master.{masterQuestions, sizeQuestions, lengthQuestions, numberQuestions, masterNumber}
 use Rattle.rules.specs.Master.{meetsJoints, endpointEquations, jointEquations, checkMaster, masterSays}
 use Rattle.rules.proofs.Lists.{all-at, all-of, length-listed}
 use Rattle.rules.proofs.Filling.{all-listed, listed-ext}
@@ -56,7 +57,8 @@ all-within : (xs : List Float) → T (all wholeWithin xs) → all within (map wh
 unfolding all wholeWithin
 all-within [] t = refl
 all-within (x ∷ xs) t =
-    ap₂ _&&_ (is-true (within (wholeOf x)) (and-r (isWhole x) _ (and-l (wholeWithin x) (all wholeWithin xs) t))) (all-within xs (and-r (wholeWithin x) (all wholeWithin xs) t))
+    ap₂ _&&_ (is-true (within (wholeOf x)) (and-r (isWhole x) _ (and-l (wholeWithin x) (all wholeWithin xs) t)))
+    (all-within xs (and-r (wholeWithin x) (all wholeWithin xs) t))
 
 -- the check's last question, and its answer
 
@@ -65,7 +67,11 @@ unfolding firstNo
 asked true = refl
 asked false = refl
 
-says : (t : Bool) → _≡_ {A = MasterSays} (record { refused = not (eqb (cond t 0 4) 0); number = cond t 0 4; good = eqb (cond t 0 4) 0 && true && true }) (masterSays (cond t Yes (Refused 4)))
+-- what the check says where it answers n and the equations are met or not
+abbrev answering : ℕ → Bool → MasterSays
+answering n met = record { refused = not (eqb n 0); number = n; good = eqb n 0 && met && true }
+
+says : (t : Bool) → answering (cond t 0 4) true ≡ masterSays (cond t Yes (Refused 4))
 unfolding masterSays
 says true = refl
 says false = refl
@@ -139,7 +145,7 @@ module _ (order : ℕ) (u v : Float) (left right : List Float) where
 
     check : checkMaster set ≡ masterSays (cond (all within (set .table)) Yes (Refused 4))
     unfolding checkMaster jointEquations meetsJoints every
-    check = ap₂ (λ (n : ℕ) (t : Bool). record { refused = not (eqb n 0); number = n; good = eqb n 0 && t && true }) number (is-true (endpointEquations set) endpoints) ∙ says (all within (set .table))
+    check = ap₂ answering number (is-true (endpointEquations set) endpoints) ∙ says (all within (set .table))
 
     exact-segment : Exact segment set
     exact-segment = record { whole = whole; endpoints = endpoints; equations = equations; check = check }

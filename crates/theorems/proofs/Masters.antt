@@ -19,7 +19,8 @@ use Rattle.rules.specs.Floats.{_!_, +0, +1}
 use Rattle.rules.specs.Lists.{all}
 use Rattle.rules.specs.Tables.{mOf}
 use Rattle.rules.specs.Build.{BuildInput, validOrder, buildNumber, axisWaypoints}
-use Rattle.rules.specs.Master.{MasterSet, MasterSays, Equations, within, coefficient, binomial, sumℤ, atEnd, segments, masterQuestions, sizeQuestions, lengthQuestions, numberQuestions, masterNumber, checkMaster, masterSays}
+use Rattle.rules.specs.Master.{MasterSet, MasterSays, Equations, within, coefficient, binomial, sumℤ, atEnd, segments}
+use Rattle.rules.specs.Master.{masterQuestions, sizeQuestions, lengthQuestions, numberQuestions, masterNumber, checkMaster, masterSays}
 use Rattle.rules.specs.Query.{derivativeFactor, evalPoly}
 use Rattle.rules.proofs.Lists.{all-at, all-of, length-listed}
 use Rattle.rules.proofs.Questions.{said-yes}
@@ -63,7 +64,8 @@ module _ (s : MasterSet) (accepted : masterNumber s ≡ 0) where
     segment-within =
         all-of wholeWithin a +0 (λ j l.
         and-i (isWhole (a ! j)) _ (all-at isWhole a +0 tt (segment .whole) j)
-        (subst (λ (z : ℤ). T (within z)) (sym (segment .numbers j (subst (λ (n : ℕ). j < n) (segment .count) l))) (all-at within (s .table) (pos 0) tt table-within _)))
+        (subst (λ (z : ℤ). T (within z)) (sym (segment .numbers j (subst (λ (n : ℕ). j < n) (segment .count) l)))
+        (all-at within (s .table) (pos 0) tt table-within _)))
 
     ends : (k : ℕ) → k ≤ 3 → ExactAtEnds (s .order) a k
     unfolding WholeNumbersEvaluateExactly

@@ -1,6 +1,6 @@
--- A set to which the check says yes evaluates to what it was made from: by the evaluation in floats each segment starts and ends at its waypoints, the first and
--- the last have the states as derivatives there, and at a joint two segments agree. Nothing is rounded, for the orders 3, 5 and 7. Proved by
--- `masters-evaluate-exactly` and `two-points-evaluate-exactly` of proofs/Masters.antt. Assumes nothing.
+-- A set to which the check says yes evaluates to what it was made from: by the evaluation in floats each segment starts and ends at its waypoints,
+-- the first and the last have the states as derivatives there, and at a joint two segments agree. Nothing is rounded, for the orders 3, 5 and 7.
+-- Proved by `masters-evaluate-exactly` and `two-points-evaluate-exactly` of proofs/Masters.antt. Assumes nothing.
 use mathlib.Core.Path.{_≡_}
 use mathlib.Core.List.{List}
 use Prim.Native.Nat.{ℕ, suc, _+_, _*_, _<_, _≤_}

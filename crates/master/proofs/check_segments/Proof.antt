@@ -33,6 +33,13 @@ Inv-loop m waypoints start end table segments good₀ i₀ good i = Inv m waypoi
 abbrev μ-loop : tie.MeasureT-loop
 μ-loop m waypoints start end table segments good₀ i₀ good i = length waypoints - 1 - i
 
+-- places of the code: the entry, from the loop on, and a turn of the loop
+abbrev start : tie.At-loop Inv-loop μ-loop → tie.Start Inv-loop μ-loop
+start c = c .before .before
+
+abbrev turn : tie.After-is-yes Inv-loop μ-loop → tie.In-loop Inv-loop μ-loop
+turn c = c .before .before .before .before
+
 -- no segment yet, and one more
 no-segment : (m : ℕ) (w start end table : List ℤ) → meetsUpTo m w start end table 0 ≡ meetsStart m (length w - 1) table start
 unfolding meetsUpTo every
@@ -52,17 +59,14 @@ unfolding passSays masterSays
 out-of-range m w start end table e = rw e
 
 -- behind the loop every number is in range, and `good` is the answer
-answered : (c : tie.After-loop Inv-loop μ-loop) → let a = c .before .before .before .args in
+answered : (c : tie.After-loop Inv-loop μ-loop) → let a = start (c .before) .args in
     passSays (a .m) (a .waypoints .now) (a .start .now) (a .end .now) (a .table .now) ≡ record { refused = false; number = 0; good = c .before .loop .good }
 unfolding passSays
 answered c =
     let l = c .before .loop in
-    let s = c .before .before .before in
+    let s = start (c .before) in
     let n : length (s .args .waypoints .now) - 1 ≡ l .i = le-antisymm (c .loop-test .left) (l .inv .most) in
     rw (l .inv .left ∙ none-left (s .pre .0) (l .inv .most) (c .loop-test .left), n, ← l .inv .met)
-
-sub-segments : tie.Need-sub-segments Inv-loop μ-loop
-sub-segments c = let h = c .pre .0 .least in omega arith
 
 meets-start-requires : tie.Need-meets-start-requires Inv-loop μ-loop
 meets-start-requires c κs =
@@ -76,7 +80,7 @@ loop-holds c =
     record { most = omega arith; met = c .meets-start .ensures (length w - 1) ∙ sym (no-segment _ w _ _ _); left = rw zero-mul }
 
 check-segment-requires : tie.Need-check-segment-requires Inv-loop μ-loop
-check-segment-requires c κs = (c .before .before .before .pre .0, c .loop-test .taken)
+check-segment-requires c κs = (start (c .before) .pre .0, c .loop-test .taken)
 
 -- where a segment's answer is not a refusal
 went-on : (c : tie.Else1 Inv-loop μ-loop) → masterSays (c .before .before .check-segment .result) .refused ≡ false
@@ -86,23 +90,17 @@ returns : tie.Need-returns Inv-loop μ-loop
 returns c =
     let said = c .before .before in
     let d = said .before in
-    let s = d .before .before .before in
+    let s = start (d .before) in
     let out = was-out _ _ _ _ _ _ (said .check-segment .ensures) (sym (c .before .is-refused .ensures) ∙ c .if1 .taken) in
     said .check-segment .ensures
     ∙ segment-out _ _ _ _ _ _ out
     ∙ sym (out-of-range _ _ _ _ _ (d .before .loop .inv .left ∙ left-next (s .args .m) (s .args .table .now) _ out))
 
-add-i : tie.Need-add-i Inv-loop μ-loop
-add-i c = let h = c .before .before .before .before .loop-test .taken in omega arith
-
-loop-less : tie.Need-loop-less Inv-loop μ-loop
-loop-less c = let h = c .before .before .before .before .loop-test .taken in omega arith
-
 loop-again : tie.Need-loop-again Inv-loop μ-loop
 loop-again c =
     let said = c .before .before .before in
-    let d = said .before in
-    let s = d .before .before .before in
+    let d = turn c in
+    let s = start (d .before) in
     let on = went-on (c .before) in
     record {
       most = let h = d .loop-test .taken in omega arith;
@@ -127,15 +125,15 @@ check-segments-spec =
     (tie.spec
     Inv-loop
     μ-loop
-    sub-segments
+    (λ c. omega (arith, c .pre .0 .least))
     meets-start-requires
     loop-holds
     check-segment-requires
     (λ c κs. search needs)
     returns
     (λ c κs. search needs)
-    add-i
-    loop-less
+    (λ c. omega (arith, turn c .loop-test .taken))
+    (λ c. omega (arith, turn c .loop-test .taken))
     loop-again
     returns-2
     returns-3)

@@ -8,12 +8,13 @@ returns : tie.Need-returns
 returns c = rw (no (c .before .all-within .ensures) (c .if1 .taken))
 
 returns-2 : tie.Need-returns-2
-returns-2 c = rw (yes (c .before .before .before .all-within .ensures) (c .before .before .if1 .left), no (c .before .all-within2 .ensures) (c .if2 .taken))
+returns-2 c = let first = c .before .before in rw (yes (first .before .all-within .ensures) (first .if1 .left), no (c .before .all-within2 .ensures) (c .if2 .taken))
 
 returns-3 : tie.Need-returns-3
 returns-3 c =
     let d = c .before in
-    last-decides (both (yes (d .before .before .before .all-within .ensures) (d .before .before .if1 .left)) (yes (d .before .all-within2 .ensures) (d .if2 .left)))
+    let first = d .before .before in
+    last-decides (both (yes (first .before .all-within .ensures) (first .if1 .left)) (yes (d .before .all-within2 .ensures) (d .if2 .left)))
     (c .all-within3 .ensures)
 
 pub given-within-spec : {M : Type 1} → statement M

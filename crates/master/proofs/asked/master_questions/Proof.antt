@@ -14,7 +14,7 @@ use Rattle.rules.specs.Master.{setOf, sizeQuestions, lengthQuestions}
 use Rattle.rules.proofs.Questions.{yes-to, no-to, first-no, first-yes}
 use Rattle.rules.proofs.Build.{by-order}
 use Rattle.questions.proofs.Tests.{no, yes}
-use Rattle.master_numbers.proofs.Sized.{Sized, sized}
+use Rattle.master_numbers.proofs.Sized.{sized}
 use Rattle.master.specs.Pass.{questionsBefore}
 use Rattle.master.proofs.asked.master_questions.Statement.{statement}
 use Rattle.master.proofs.asked.master_questions.Tie as tie

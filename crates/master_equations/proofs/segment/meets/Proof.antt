@@ -1,4 +1,4 @@
--- `master_equations::segment::meets` compares the sums with the numbers, one place after the other. The loop's invariant: those before r are the same. Assumes nothing.
+-- `master_equations::segment::meets` compares one place after the other. The loop's invariant: those before r are the same. Assumes nothing.
 use mathlib.Core.Path.{_≡_, refl, sym}
 use mathlib.Core.Bool.{true}
 use Prim.Native.Nat.{_-_, _≤_}

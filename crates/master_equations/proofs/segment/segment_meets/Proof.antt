@@ -41,7 +41,10 @@ rest c =
     let a = start c .args in
     rest-decides (a .m) (a .waypoints .now) (a .end .now) (a .table .now) (a .i) (c .sums .result) (c .sums .ensures) (a .before)
     (not-false (a .before) (begun r .if1 .left))
-    (bits-same (at (a .table .now) (a .i * (2 * a .m + 2))) (at (a .waypoints .now) (a .i)) (r .before .before .first .given) (r .before .left .given) (c .before .if2 .left))
+    (bits-same (at (a .table .now) (a .i * (2 * a .m + 2))) (at (a .waypoints .now) (a .i))
+    (r .before .before .first .given)
+    (r .before .left .given)
+    (c .before .if2 .left))
 
 -- behind the third, the right waypoint is met
 right-met : (c : tie.Else3)

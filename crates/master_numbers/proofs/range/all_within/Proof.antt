@@ -19,22 +19,23 @@ Inv-loop numbers i₀ i = (i ≤ length numbers) × (all within numbers ≡ all 
 abbrev μ-loop : tie.MeasureT-loop
 μ-loop numbers i₀ i = length numbers - i
 
-loop-holds : tie.Need-loop-holds Inv-loop μ-loop
-loop-holds c = (omega arith, refl)
+-- a turn of the loop, from behind the answer
+abbrev turn : tie.After-is-within Inv-loop μ-loop → tie.In-loop Inv-loop μ-loop
+turn c = c .before .before
 
 -- the number that was asked of is the one at i: what is read of it is what the list has there
-answer : (c : tie.After-is-within Inv-loop μ-loop) → let p = c .before .before .before in
+answer : (c : tie.After-is-within Inv-loop μ-loop) → let p = turn c .before in
     c .is-within .result ≡ within (getD (p .before .args .numbers .now) (p .loop .i) (pos 0))
 answer c = c .is-within .ensures ∙ ap within (as-read _ (c .before .is-within-arg .given))
 
 returns : tie.Need-returns Inv-loop μ-loop
 returns c =
-    let w = c .before .before .before in
+    let w = turn (c .before) in
     sym (w .before .loop .inv .1 ∙ all-next within _ _ _ (w .loop-test .taken) (no (answer (c .before)) (c .if1 .taken)))
 
 loop-again : tie.Need-loop-again Inv-loop μ-loop
 loop-again c =
-    let w = c .before .before .before in (
+    let w = turn (c .before) in (
       omega arith,
       w .before .loop .inv .1 ∙ all-next within _ _ _ (w .loop-test .taken) (yes (answer (c .before)) (c .if1 .left)),
     )
@@ -48,7 +49,7 @@ all-within-spec =
     (tie.spec
     Inv-loop
     μ-loop
-    loop-holds
+    (λ c. (omega arith, refl))
     (λ c. search needs)
     (λ c. search needs)
     (λ c κs. search needs)

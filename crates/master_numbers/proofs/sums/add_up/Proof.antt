@@ -24,46 +24,30 @@ abbrev μ-loop : tie.MeasureT-loop
 short : (c : tie.At-loop Inv-loop μ-loop) → c .loop .k < length (c .loop .b)
 short c = omega (arith, c .loop .inv .most, c .loop .inv .size, c .before .pre .1)
 
+-- the loop, from behind the second number read
+abbrev loop : tie.After-b2 Inv-loop μ-loop → tie.At-loop Inv-loop μ-loop
+loop c = c .before .before .before
+
 -- what is added
 next : (c : tie.After-b2 Inv-loop μ-loop)
-    → let l = c .before .before .before .loop in
+    → let l = loop c .loop in
     toZ w64 (ofZ w64 (at (l .b) (l .k - 1))) +ℤ toZ w64 (ofZ w64 (at (l .b) (l .k - 1 + 1)))
-    ≡ sumFrom (c .before .before .before .before .args .b .now) (c .before .before .before .before .args .last) (l .k - 1)
+    ≡ sumFrom (loop c .before .args .b .now) (loop c .before .args .last) (l .k - 1)
 next c =
-    let w = c .before .before in
-    let l = w .before .loop in
-    ap₂ _+ℤ_ (as-read (at (l .b) (l .k - 1)) (c .before .b .given)) (as-read (at (l .b) (l .k - 1 + 1)) (c .b2 .given)) ∙ next-sum (w .before .loop .inv) (w .loop-test .taken)
+    let l = loop c .loop in
+    ap₂ _+ℤ_ (as-read (at (l .b) (l .k - 1)) (c .before .b .given)) (as-read (at (l .b) (l .k - 1 + 1)) (c .b2 .given))
+    ∙ next-sum (l .inv) (c .before .before .loop-test .taken)
 
 added : (c : tie.After-b2 Inv-loop μ-loop)
-    → let l = c .before .before .before .loop in
+    → let l = loop c .loop in
     SFits w64 (toZ w64 (ofZ w64 (at (l .b) (l .k - 1))) +ℤ toZ w64 (ofZ w64 (at (l .b) (l .k - 1 + 1))))
 added c =
-    let w = c .before .before in
-    let i = w .before .loop .inv in
-    rw (next c) (fits _ (w .before .before .pre .2 _ (omega (arith, w .loop-test .taken)) (omega (arith, i .most))))
-
-loop-holds : tie.Need-loop-holds Inv-loop μ-loop
-loop-holds c = none-added _ _ _ (c .pre .0)
-
-add-b : tie.Need-add-b Inv-loop μ-loop
-add-b c = record { fits = omega (arith, short (c .before .before)) }
-
-mul-b-2 : tie.Need-mul-b-2 Inv-loop μ-loop
-mul-b-2 c = record { fits = omega (arith, short (c .before .before)) }
-
-add-b-2 : tie.Need-add-b-2 Inv-loop μ-loop
-add-b-2 c = added c
+    rw (next c)
+    (fits _ (loop c .before .pre .2 _ (omega (arith, c .before .before .loop-test .taken)) (omega (arith, loop c .loop .inv .most))))
 
 loop-again : tie.Need-loop-again Inv-loop μ-loop
 loop-again c =
-    let w = c .before .before in
-    one-added (w .before .loop .inv) (w .loop-test .taken) (w .before .before .pre .1) (as-read _ (added c .sfits) ∙ next c)
-
-same-length : tie.Need-same-length Inv-loop μ-loop
-same-length c = c .before .loop .inv .size
-
-returns : tie.Need-returns Inv-loop μ-loop
-returns c = all-added (c .before .loop .inv) (c .loop-test .left)
+    one-added (loop c .loop .inv) (c .before .before .loop-test .taken) (loop c .before .pre .1) (as-read _ (added c .sfits) ∙ next c)
 
 pub add-up-spec : {M : Type 1} → statement M
 add-up-spec =
@@ -71,17 +55,17 @@ add-up-spec =
     (tie.spec
     Inv-loop
     μ-loop
-    loop-holds
+    (λ c. none-added _ _ _ (c .pre .0))
     (λ c. search needs)
     (λ c. search needs)
     (λ c. omega (arith, short (c .before)))
-    add-b
-    mul-b-2
+    (λ c. record { fits = omega (arith, short (c .before .before)) })
+    (λ c. record { fits = omega (arith, short (c .before .before)) })
     (λ c. omega (arith, c .before .loop-test .taken, short (c .before .before)))
-    add-b-2
+    added
     (λ c. search needs)
-    (λ c. omega (arith, short (c .before .before .before)))
+    (λ c. omega (arith, short (loop c)))
     (λ c. omega arith)
     loop-again
-    same-length
-    returns)
+    (λ c. c .before .loop .inv .size)
+    (λ c. all-added (c .before .loop .inv) (c .loop-test .left)))

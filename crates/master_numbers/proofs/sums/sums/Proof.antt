@@ -28,7 +28,10 @@ add-up-requires c κs =
     (omega (arith, more), omega (arith, l .inv .size), sum-fits (l .inv) (s .pre) more)
 
 loop-again : tie.Need-loop-again Inv-loop μ-loop
-loop-again c = turned (c .before .before .before .before .loop .inv) (c .before .before .before .loop-test .taken) (c .before .add-up .kept .0) (c .before .add-up .ensures)
+loop-again c =
+    let added = c .before in
+    let w = added .before .before in
+    turned (w .before .loop .inv) (w .loop-test .taken) (added .add-up .kept .0) (added .add-up .ensures)
 
 returns : tie.Need-returns Inv-loop μ-loop
 returns c r h = c .before .loop .inv .done r (omega (arith, c .loop-test .left))
