@@ -1,4 +1,5 @@
--- What the pass over the table asks and answers is what the definition does: `number-is`, the questions; `met-is`, the equations. Assumes nothing.
+-- What the pass over the table asks and answers is what the definition does: `number-is`, the questions; `met-is`, the equations; `left-next` and `none-left`,
+-- the table's range. Assumes nothing.
 use mathlib.Core.Path.{_≡_, refl, sym, ap, _∙_, subst}
 use mathlib.Core.Bool.{Bool, true, false, not, cond, _&&_}
 use mathlib.Core.List.{List, [], _∷_, _++_}
@@ -8,7 +9,8 @@ use native.Mathlib.Nat.{eq-or-lt-of-le}
 use native.Mathlib.Omega.{arith}
 use lib.Dec.{T, eqb, eqb→eq, leb→le, lit≤}
 use lib.IntN.{ℤ}
-use lib.ListN.{length}
+use lib.ListN.{length, drop}
+use lib.Seq.{drop-drop}
 use lib.Ieee.Fits.{and-i, and-l, and-r}
 use borrow.Author.Tests.{eq-eqb, ne-eqb}
 use Rattle.rules.specs.declared.MasterAnswer.the-variants.{Refused}
@@ -19,11 +21,12 @@ use Rattle.rules.specs.Master.{MasterSet, Equations, within, same, at, coeffici
 use Rattle.rules.specs.Master.{MasterSays, masterQuestions, sizeQuestions, lengthQuestions, numberQuestions, masterNumber, masterSays}
 use Rattle.rules.specs.Master.{endpointEquations, jointEquations, checkMaster}
 use Rattle.law_rounding.proofs.Sums.{same-test}
-use Rattle.rules.proofs.Lists.{every-at, every-of}
+use Rattle.rules.proofs.Lists.{every-at, every-of, all-split, all-none-left}
+use Rattle.rules.proofs.Cells.{next-part}
 use Rattle.rules.proofs.Build.{by-order, coefficient-count}
 use Rattle.rules.proofs.Questions.{numbered, never, answerAt, said-yes}
 use Rattle.rules.proofs.Master.{same→eq, eq→same, to-equations, of-equations}
-use Rattle.master_equations.specs.Segment.{Shaped, segmentMeets}
+use Rattle.master_equations.specs.Segment.{Shaped, segmentMeets, segmentPart}
 use Rattle.master.specs.Pass.{questionsBefore, meetsUpTo, passSays}
 
 -- ---- the questions
@@ -137,6 +140,26 @@ module _ (s : MasterSet) (two : 2 ≤ length (s .waypoints)) where
   met-is =
       same-test _ _ (λ t. let q = of-equations s (to t) in and-i (endpointEquations s) (jointEquations s) (q .0) (q .1))
       (λ t. from (to-equations s (and-l (endpointEquations s) (jointEquations s) t) (and-r (endpointEquations s) (jointEquations s) t)))
+
+-- ---- the range of the table, as the loop over its segments asks it
+
+-- the range of what is left at segment i: its own part, and what is left after it
+pub left-next : (m : ℕ) (table : List ℤ) (i : ℕ) {b : Bool} → all within (segmentPart m table i) ≡ b
+    → all within (drop (i * (2 * m + 2)) table) ≡ (b && all within (drop ((i + 1) * (2 * m + 2)) table))
+unfolding segmentPart
+left-next m table i e =
+    let k = 2 * m + 2 in
+    let at = i * k in
+    all-split within k (drop at table)
+    ∙ rw (next-part k i, drop-drop k at table, e)
+
+-- behind the last segment nothing is left
+pub none-left : {m : ℕ} {w end table : List ℤ} → Shaped m w end table → {i : ℕ} → i ≤ length w - 1 → length w - 1 ≤ i
+    → all within (drop (i * (2 * m + 2)) table) ≡ true
+none-left {m} {w} {end} {table} h {i} l k = all-none-left within table (i * (2 * m + 2)) (omega (arith, e)) (omega (arith, e))
+  where
+    e : length table ≡ i * (2 * m + 2)
+    e = h .table-is ∙ ap (λ (n : ℕ). n * (2 * m + 2)) (omega arith)
 
 -- ---- the answer
 

@@ -1,3 +1,3 @@
-pub mod Parts
+pub mod SegmentPart
 pub mod Meets
-pub mod Says
+pub mod SegmentSays

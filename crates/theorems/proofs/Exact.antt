@@ -29,10 +29,10 @@ use Rattle.rules.proofs.Lists.{all-at, all-of, length-listed}
 use Rattle.rules.proofs.Filling.{all-listed, listed-ext}
 use Rattle.rules.proofs.Master.{of-equations}
 use Rattle.rules.proofs.Build.{length-segment, coefficient-count}
-use Rattle.theorems.specs.Axes.{marked, givenNumber, axisPart}
+use Rattle.theorems.specs.Independent.{marked, givenNumber, axisPart}
 use Rattle.theorems.specs.Exact.{wholeWithin, wholeState, WholeTwoPoints, givenState, axisSet, Exact, TwoPointsAreExact}
-use Rattle.theorems.proofs.Parts.{coefficientsOf, order-valid, part-is}
-use Rattle.theorems.proofs.Axes.{boundary-is}
+use Rattle.theorems.proofs.AxisPart.{coefficientsOf, order-valid, part-is}
+use Rattle.theorems.proofs.Independent.{boundary-is}
 use Rattle.theorems.proofs.Sums.{form}
 use Rattle.theorems.proofs.Tables.{coefficientForm, TableFacts, table-facts}
 use Rattle.theorems.proofs.Segment.{numbers, meets}

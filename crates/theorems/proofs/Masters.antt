@@ -26,13 +26,13 @@ use Rattle.rules.proofs.Lists.{all-at, all-of, length-listed}
 use Rattle.rules.proofs.Questions.{said-yes}
 use Rattle.rules.proofs.Build.{by-order, coefficient-count}
 use Rattle.rules.proofs.Master.{yes-iff}
-use Rattle.theorems.specs.Axes.{axisPart}
+use Rattle.theorems.specs.Independent.{axisPart}
 use Rattle.theorems.specs.Exact.{wholeWithin, WholeTwoPoints, axisSet, Exact, TwoPointsAreExact}
 use Rattle.theorems.specs.Evaluation.{IsNumber, derivativeAt0, derivativeAt1, ExactAtEnds, WholeNumbersEvaluateExactly}
 use Rattle.theorems.specs.Masters.{IsSegment, MeetsItsMaster, MastersEvaluateExactly, TwoPointsEvaluateExactly}
 use Rattle.theorems.proofs.Sums.{sum-same, sum-times}
 use Rattle.theorems.proofs.Derivatives.{factor-binomial}
-use Rattle.theorems.proofs.Parts.{axis-length, part-is}
+use Rattle.theorems.proofs.AxisPart.{axis-length, part-is}
 use Rattle.theorems.proofs.Exact.{first-segment, two-points-are-exact}
 use Rattle.theorems.proofs.Evaluation.{whole-numbers-evaluate-exactly}
 

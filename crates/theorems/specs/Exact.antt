@@ -16,7 +16,7 @@ use Rattle.rules.specs.Lists.{all, listed}
 use Rattle.rules.specs.Tables.{mOf}
 use Rattle.rules.specs.Build.{BuildInput, buildNumber, axisWaypoints}
 use Rattle.rules.specs.Master.{MasterSet, within, Equations, endpointEquations, checkMaster, masterSays}
-use Rattle.theorems.specs.Axes.{marked, givenNumber, axisPart}
+use Rattle.theorems.specs.Independent.{marked, givenNumber, axisPart}
 
 -- "whole and within 2^40"; either zero is
 unfoldable pub wholeWithin : Float → Bool

@@ -15,7 +15,7 @@ use Rattle.rules.specs.Tables.{mOf}
 use Rattle.rules.specs.Build.{BuildInput, buildNumber}
 use Rattle.rules.specs.Master.{MasterSet, within, at, coefficient, segments, checkMaster}
 use Rattle.rules.specs.Query.{derivativeFactor, evalPoly}
-use Rattle.theorems.specs.Axes.{axisPart}
+use Rattle.theorems.specs.Independent.{axisPart}
 use Rattle.theorems.specs.Exact.{WholeTwoPoints, axisSet}
 use Rattle.theorems.specs.Evaluation.{IsNumber}
 

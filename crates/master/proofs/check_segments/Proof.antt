@@ -16,9 +16,9 @@ use Rattle.law_rounding.proofs.Sums.{and-true}
 use Rattle.rules.proofs.Lists.{and-assoc, every-more}
 use Rattle.master_equations.specs.Segment.{segmentMeets}
 use Rattle.master.specs.Pass.{meetsUpTo, passSays}
-use Rattle.master.proofs.Parts.{left-next, none-left}
-use Rattle.master_equations.proofs.Parts.{segment-inside}
-use Rattle.master_equations.proofs.Says.{segment-out, was-out, was-within, was-good}
+use Rattle.master.proofs.Pass.{left-next, none-left}
+use Rattle.master_equations.proofs.SegmentPart.{segment-inside}
+use Rattle.master_equations.proofs.SegmentSays.{segment-out, was-out, was-within, was-good}
 use Rattle.master.proofs.check_segments.Statement.{statement}
 use Rattle.master.proofs.check_segments.Tie as tie
 

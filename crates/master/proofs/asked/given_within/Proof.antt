@@ -8,7 +8,9 @@ returns : tie.Need-returns
 returns c = rw (no (c .before .all-within .ensures) (c .if1 .taken))
 
 returns-2 : tie.Need-returns-2
-returns-2 c = let first = c .before .before in rw (yes (first .before .all-within .ensures) (first .if1 .left), no (c .before .all-within2 .ensures) (c .if2 .taken))
+returns-2 c =
+    let first = c .before .before in
+    rw (yes (first .before .all-within .ensures) (first .if1 .left), no (c .before .all-within2 .ensures) (c .if2 .taken))
 
 returns-3 : tie.Need-returns-3
 returns-3 c =

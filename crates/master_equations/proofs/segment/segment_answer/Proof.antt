@@ -7,8 +7,8 @@ use Rattle.rules.specs.Lists.{all}
 use Rattle.rules.specs.Master.{within, masterSays}
 use Rattle.questions.proofs.Tests.{no, yes}
 use Rattle.master_equations.specs.Segment.{segmentPart}
-use Rattle.master_equations.proofs.Parts.{as-lent, segment-inside, place-most, summable}
-use Rattle.master_equations.proofs.Says.{segment-out, segment-answers}
+use Rattle.master_equations.proofs.SegmentPart.{as-lent, segment-inside, place-most, summable}
+use Rattle.master_equations.proofs.SegmentSays.{segment-out, segment-answers}
 use Rattle.master_equations.proofs.segment.segment_answer.Statement.{statement}
 use Rattle.master_equations.proofs.segment.segment_answer.Tie as tie
 

@@ -14,7 +14,7 @@ use Rattle.rules.specs.Build.{axisCoefficients, axisWaypoints, axisState, table
 use Rattle.rules.proofs.Lists.{joined-part}
 use Rattle.rules.proofs.Questions.{answerAt, said-yes}
 use Rattle.rules.proofs.Build.{length-axis, length-state, coefficient-count}
-use Rattle.theorems.specs.Axes.{axisPart}
+use Rattle.theorems.specs.Independent.{axisPart}
 
 -- what the rules compute for an axis
 unfoldable pub coefficientsOf : BuildInput → ℕ → List Float

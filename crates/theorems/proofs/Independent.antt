@@ -11,8 +11,8 @@ use Rattle.rules.specs.Lists.{listed}
 use Rattle.rules.specs.Tables.{mOf}
 use Rattle.rules.specs.Build.{BuildInput, acceptedRecord, divided, boundaryNumber, axisWaypoints, axisState}
 use Rattle.rules.proofs.Filling.{listed-ext}
-use Rattle.theorems.specs.Axes.{marked, givenNumber, Alike, AxesAreIndependent}
-use Rattle.theorems.proofs.Parts.{coefficientsOf, part-is}
+use Rattle.theorems.specs.Independent.{marked, givenNumber, Alike, AxesAreIndependent}
+use Rattle.theorems.proofs.AxisPart.{coefficientsOf, part-is}
 
 -- a number of a state as the build uses it, by the state's mark and the number as given
 abbrev pub used : Float → Bool → Float → ℕ → Float
