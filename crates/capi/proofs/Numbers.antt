@@ -8,13 +8,13 @@ use lib.Ieee.Bits.{is-true}
 use lib.Ieee.Fits.{and-l}
 use Rattle.rules.specs.Build.{buildQuestions, inputQuestions, pivotQuestions, buildNumber}
 use Rattle.rules.specs.Query.{queryQuestions, pathQuestions, bufferQuestions, rangeQuestions, queryNumber}
-use Rattle.rules.specs.Master.{MasterSet, masterQuestions, shapeQuestions, numberQuestions, masterNumber, endpointEquations, jointEquations, checkMaster}
+use Rattle.rules.specs.Master.{MasterSet, masterQuestions, sizeQuestions, lengthQuestions, numberQuestions, masterNumber, endpointEquations, jointEquations, checkMaster}
 use Rattle.rules.proofs.Questions.{answer-passes}
 use Rattle.capi.specs.Export.{checkNumber, OneIsYes, buildNumbers, queryNumbers, checkNumbers, oneOf, NumbersAreListed}
 
 -- no question before a master check has the number 1
 not-one : (s : MasterSet) → masterNumber s ≡ 1 → ⊥
-unfolding masterNumber masterQuestions shapeQuestions numberQuestions
+unfolding masterNumber masterQuestions sizeQuestions lengthQuestions numberQuestions
 not-one s e = subst (λ (n : ℕ). T (not (eqb n 1))) e (answer-passes (λ (n : ℕ). not (eqb n 1)) (masterQuestions s) tt)
 
 pub one-is-yes : OneIsYes
@@ -38,7 +38,7 @@ one-is-yes s = (
     asked t = and-l (eqb (masterNumber s) 0) (endpointEquations s) (and-l (eqb (masterNumber s) 0 && endpointEquations s) (jointEquations s) t)
 
 pub numbers-are-listed : NumbersAreListed
-unfolding NumbersAreListed buildNumber buildQuestions inputQuestions pivotQuestions queryNumber queryQuestions pathQuestions bufferQuestions rangeQuestions masterNumber masterQuestions shapeQuestions numberQuestions checkNumber checkMaster oneOf
+unfolding NumbersAreListed buildNumber buildQuestions inputQuestions pivotQuestions queryNumber queryQuestions pathQuestions bufferQuestions rangeQuestions masterNumber masterQuestions sizeQuestions lengthQuestions numberQuestions checkNumber checkMaster oneOf
 numbers-are-listed = (
   λ b cells. answer-passes (oneOf buildNumbers) (buildQuestions b cells) tt,
   λ i n. answer-passes (oneOf queryNumbers) (queryQuestions i n) tt,

@@ -1,33 +1,25 @@
 -- What the functions below `check_master` are held to, which a reader of its contract does not need: the questions but for the table's numbers, and the
 -- equations in the order in which one pass over the table meets them. proofs/Pass.antt: they are those of crates/rules/specs/Master.antt. Assumes nothing.
-use mathlib.Core.Path.{_≡_}
 use mathlib.Core.Bool.{Bool, not, cond, _&&_}
 use mathlib.Core.List.{List, [], _∷_, _++_}
-use Prim.Native.Nat.{ℕ, _+_, _-_, _*_, _≤_}
+use Prim.Native.Nat.{ℕ, _-_}
 use lib.IntN.{ℤ}
 use lib.ListN.{length}
 use Rattle.rules.specs.Lists.{all, every}
 use Rattle.rules.specs.Questions.{Question, ask}
-use Rattle.rules.specs.Master.{MasterSet, MasterSays, shapeQuestions, within, meetsStart}
+use Rattle.rules.specs.Master.{MasterSet, MasterSays, sizeQuestions, lengthQuestions, within, meetsStart}
 use Rattle.master_equations.specs.Segment.{segmentMeets}
 
 -- ---- the questions
 
 -- the last question is asked of all but the table
 unfoldable pub questionsBefore : MasterSet → List Question
-questionsBefore s = shapeQuestions s ++ (ask (all within (s .waypoints) && all within (s .start) && all within (s .end)) 4 ∷ [])
+questionsBefore s =
+    sizeQuestions (s .order) (length (s .waypoints))
+    ++ lengthQuestions s
+    ++ (ask (all within (s .waypoints) && all within (s .start) && all within (s .end)) 4 ∷ [])
 
 -- ---- all segments
-
--- what the questions have settled of the lengths
-pub record Shaped (m : ℕ) (w start end table : List ℤ) : Type 0 where
-  pub least-m : 1 ≤ m
-  pub most-m : m ≤ 3
-  pub least : 2 ≤ length w
-  pub most : length w ≤ 257
-  pub start-is : length start ≡ m
-  pub end-is : length end ≡ m
-  pub table-is : length table ≡ (length w - 1) * (2 * m + 2)
 
 -- the start state is met, and so are the equations of the first n segments
 unfoldable pub meetsUpTo : ℕ → List ℤ → List ℤ → List ℤ → List ℤ → ℕ → Bool

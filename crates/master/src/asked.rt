@@ -6,8 +6,8 @@ ghost use Rattle.rules.specs.Lists.{all};
 ghost use Rattle.rules.specs.Questions.{firstNo};
 ghost use Rattle.rules.specs.Master.{setOf, within};
 ghost use Rattle.master.specs.Pass.{questionsBefore};
-use master_equations::range::all_within;
-use questions::valid_order;
+use master_numbers::range::all_within;
+use master_numbers::size::size_questions;
 
 // The last question, of all but the table.
 fn given_within(waypoints: &[i64], start: &[i64], end: &[i64]) -> bool
@@ -30,17 +30,13 @@ pub fn master_questions(
     end: &[i64],
     table: &[i64],
 ) -> u32
-    ensures { λ r. ⌜ r ≡ firstNo (questionsBefore (setOf order (now (waypoints .entry)) (now (start .entry)) (now (end .entry)) (now (table .entry)))) ⌝ }
+    ensures { λ r. ⌜ r ≡ firstNo (questionsBefore
+        (setOf order (now (waypoints .entry)) (now (start .entry)) (now (end .entry)) (now (table .entry)))) ⌝ }
 {
-    if !valid_order(order) {
-        return 302;
-    }
     let points = waypoints.len();
-    if points < 2 {
-        return 304;
-    }
-    if 257 < points {
-        return 2; // too many points
+    let number = size_questions(order, points);
+    if number != 0 {
+        return number;
     }
     let m = (order - 1) / 2;
     if start.len() != m {

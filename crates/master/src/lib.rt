@@ -1,8 +1,10 @@
 // The check of masters, module 7 of document 01: one axis in whole numbers. It asks its questions, then
 // goes over the table once, segment by segment. What it is held to stands in crates/rules/specs/Master.antt.
 ghost use mathlib.Core.Path.{_≡_};
+ghost use lib.ListN.{length};
 ghost use Rattle.rules.specs.Master.{setOf, checkMaster, masterSays};
-ghost use Rattle.master.specs.Pass.{Shaped, passSays};
+ghost use Rattle.master_equations.specs.Segment.{Shaped};
+ghost use Rattle.master.specs.Pass.{passSays};
 
 mod asked;
 
@@ -40,7 +42,7 @@ fn check_segments(
     end: &[i64],
     table: &[i64],
 ) -> MasterAnswer
-    requires { ⌜ Shaped m (now waypoints) (now start) (now end) (now table) ⌝ }
+    requires { ⌜ Shaped m (now waypoints) (now end) (now table) × (length (now start) ≡ m) ⌝ }
     ensures { λ r. ⌜ masterSays r ≡ passSays m (now (waypoints .entry)) (now (start .entry)) (now (end .entry)) (now (table .entry)) ⌝ }
 {
     let segments = waypoints.len() - 1;

@@ -1,5 +1,3 @@
-pub mod Signed
-pub mod Parts
-pub mod Horner
+pub mod SegmentPart
 pub mod Meets
-pub mod Says
+pub mod SegmentSays

@@ -17,8 +17,8 @@ use Rattle.rules.specs.Lists.{every}
 use Rattle.rules.specs.Master.{same, at, atEnd, coefficient, meetsStart}
 use Rattle.rules.proofs.Lists.{every-fails, every-more, part-inside}
 use Rattle.rules.proofs.Master.{same→eq, eq→same}
-use Rattle.master_equations.specs.Segment.{SegmentShaped, meetsAt, segmentMeets}
-use Rattle.master_equations.proofs.Signed.{as-read}
+use Rattle.master_numbers.proofs.Signed.{as-read}
+use Rattle.master_equations.specs.Segment.{Shaped, meetsAt, segmentMeets}
 
 -- ---- one test
 
@@ -31,22 +31,22 @@ bits-differ a b h = is-false (same a b) (not-T (same a b) (λ t. h (ap (ofZ w64)
 
 -- ---- a loop's tests
 
--- the loop of `meets`, which is that of `meets_start` too, with the table for the sums: at r it compares a and b
-module _ (sums numbers : List ℤ) (from r j : ℕ) (here : j ≡ from + r) where
+-- the loop of `meets`: at r it compares a and b
+module _ (sums numbers : List ℤ) (from r : ℕ) where
   abbrev a : ℤ
   a = at sums (r + 1)
 
   abbrev b : ℤ
-  b = at numbers j
+  b = at numbers (from + r)
 
   pub one-differs : (count : ℕ) → r < count → (ofZ w64 a ≡ ofZ w64 b → ⊥) → meetsAt sums numbers from count ≡ false
   unfolding meetsAt
-  one-differs count l h = sym (every-fails count _ r l (rw (add-one, here) at (bits-differ a b h)))
+  one-differs count l h = sym (every-fails count _ r l (rw add-one at (bits-differ a b h)))
 
   pub one-more : meetsAt sums numbers from r ≡ true → mag a < 2 ^ hbits w64 → mag b < 2 ^ hbits w64 → ofZ w64 a ≡ ofZ w64 b
       → meetsAt sums numbers from (r + 1) ≡ true
   unfolding meetsAt
-  one-more e f g h = every-more _ r true e ∙ rw (add-one, here) at (bits-same a b f g h)
+  one-more e f g h = every-more _ r true e ∙ rw add-one at (bits-same a b f g h)
 
 -- ---- the tests as the code makes them
 
@@ -78,16 +78,17 @@ module _ (m : ℕ) (w end table : List ℤ) (i : ℕ) (sums : List ℤ) (are : (
   joint : every (2 * m) (λ r. same (atEnd m table i (suc r)) (coefficient m table (suc i) (suc r))) ≡ meetsAt sums table ((i + 1) * (2 * m + 2) + 1) (2 * m)
   joint = at-end (2 * m) (omega arith) table _ _ (λ r. ap (at table) (omega arith))
 
-  pub as-made : segmentMeets m w end table i
-      ≡ (same (at table (i * (2 * m + 2))) (at w i)
-      && same (at sums 0) (at w (i + 1))
+  -- where all before is good and the left waypoint is met, the rest decides
+  pub rest-decides : (before : Bool) → before ≡ true → same (at table (i * (2 * m + 2))) (at w i) ≡ true
+      → (before && segmentMeets m w end table i)
+      ≡ (same (at sums 0) (at w (i + 1))
       && cond (eqb (i + 2) (length w)) (meetsAt sums end 0 m) (meetsAt sums table ((i + 1) * (2 * m + 2) + 1) (2 * m)))
   unfolding segmentMeets
-  as-made = rw (add-zero, right, last, joint)
+  rest-decides before e f = rw (e, add-zero, right, last, joint, f)
 
 -- where a segment follows, its coefficients stand in the table
-pub next-inside : {m i : ℕ} {w end table : List ℤ} → SegmentShaped m w end table i → (i + 2 ≡ length w → ⊥)
+pub next-inside : {m i : ℕ} {w end table : List ℤ} → Shaped m w end table → i < length w - 1 → (i + 2 ≡ length w → ⊥)
     → (i + 1) * (2 * m + 2) + 1 + 2 * m ≤ length table
-next-inside {m} {i} {w} s h =
-    let inside : (i + 1) * (2 * m + 2) + (2 * m + 2) ≤ (length w - 1) * (2 * m + 2) = part-inside (2 * m + 2) (omega (arith, s .between, h)) in
+next-inside {m} {i} {w} s l h =
+    let inside : (i + 1) * (2 * m + 2) + (2 * m + 2) ≤ (length w - 1) * (2 * m + 2) = part-inside (2 * m + 2) (omega (arith, h)) in
     rw (s .table-is) (omega (arith, inside))

@@ -2,35 +2,19 @@
 use mathlib.Core.Path.{_≡_}
 use mathlib.Core.Bool.{Bool, not, cond, _&&_}
 use mathlib.Core.List.{List}
-use Prim.Native.Nat.{ℕ, suc, _+_, _-_, _*_, _<_, _≤_}
-use lib.Dec.{T, eqb}
+use Prim.Native.Nat.{ℕ, suc, _+_, _-_, _*_, _≤_}
+use lib.Dec.{eqb}
 use lib.IntN.{ℤ}
 use lib.ListN.{length, take, drop}
 use Rattle.rules.specs.Lists.{all, every}
-use Rattle.rules.specs.Master.{MasterSays, within, same, at, coefficient, sumℤ, atEnd}
+use Rattle.rules.specs.Master.{MasterSays, within, same, at, coefficient, atEnd}
 
--- the sums of segment i can be taken: it is in the table, and its coefficients are within ±2^40
-pub record Summable (m : ℕ) (table : List ℤ) (i : ℕ) : Type 0 where
-  pub most-m : m ≤ 3
-  pub most-i : i ≤ 255
-  pub inside : i * (2 * m + 2) + (2 * m + 2) ≤ length table
-  pub coefficients : (k : ℕ) → k < 2 * m + 2 → T (within (coefficient m table i k))
-
--- the sum of the numbers at the places k to last
-unfoldable pub sumFrom : List ℤ → ℕ → ℕ → ℤ
-sumFrom b last k = sumℤ (suc last - k) (λ i. at b (k + i))
-
--- what b becomes where the numbers from a first place to a last one are added up
-pub record AddedUp (first last : ℕ) (b b′ : List ℤ) : Type 0 where
-  pub below : (k : ℕ) → k < first → at b′ k ≡ at b k
-  pub added : (k : ℕ) → first ≤ k → k ≤ last → at b′ k ≡ sumFrom b last k
-
--- segment i of so many waypoints, where the end state and the table are as long as they have to be
-pub record SegmentShaped (m : ℕ) (w end table : List ℤ) (i : ℕ) : Type 0 where
+-- what the questions have settled of the lengths of a set with so many waypoints, the start state aside
+pub record Shaped (m : ℕ) (w end table : List ℤ) : Type 0 where
   pub least-m : 1 ≤ m
   pub most-m : m ≤ 3
-  pub most-i : i ≤ 255
-  pub between : suc i < length w
+  pub least : 2 ≤ length w
+  pub most : length w ≤ 257
   pub end-is : length end ≡ m
   pub table-is : length table ≡ (length w - 1) * (2 * m + 2)
 

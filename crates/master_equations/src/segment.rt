@@ -1,33 +1,19 @@
 // The equations of one segment, and those of the start state.
 ghost use mathlib.Core.Path.{_≡_};
 ghost use mathlib.Core.Bool.{_&&_};
-ghost use Prim.Native.Nat.{ℕ, _+_, _≤_};
+ghost use Prim.Native.Nat.{ℕ, _+_, _-_, _<_, _≤_};
 ghost use lib.ListN.{length};
 ghost use Rattle.rules.specs.Master.{masterSays, meetsStart};
-ghost use Rattle.master_equations.specs.Segment.{Summable, SegmentShaped, meetsAt, segmentMeets, segmentSays};
-use crate::range::all_within;
-use crate::sums::sums;
+ghost use Rattle.master_numbers.specs.Sums.{Summable};
+ghost use Rattle.master_equations.specs.Segment.{Shaped, meetsAt, segmentMeets, segmentSays};
+use master_numbers::range::all_within;
+use master_numbers::sums::sums;
 use rules::MasterAnswer;
 
-// Coefficients 1 to m of the first segment are the start state.
-pub fn meets_start(m: usize, start: &[i64], table: &[i64]) -> bool
-    requires { ⌜ (m ≤ length (now start)) × (m + 1 ≤ length (now table)) ⌝ }
-    ensures { λ b. ⌜ ((segments : ℕ) → b ≡ meetsStart m segments (now (table .entry)) (now (start .entry))) ⌝ }
-{
-    let mut r = 0;
-    while r < m {
-        if table[r + 1] != start[r] {
-            return false;
-        }
-        r += 1;
-    }
-    true
-}
-
-// The sums for r = 1 to a count are the numbers that stand in a list from a place on: the end state, or the
-// next segment's coefficients.
-fn meets(sums: &[i64; 8], numbers: &[i64], from: usize, count: usize) -> bool
-    requires { ⌜ (count ≤ 6) × (from + count ≤ length (now numbers)) ⌝ }
+// The numbers of a list at the places 1 to a count are those of another list from a place on. So the sums at a segment's end
+// are compared with the end state or the next segment's coefficients, and the first segment's with the start state.
+fn meets(sums: &[i64], numbers: &[i64], from: usize, count: usize) -> bool
+    requires { ⌜ (count < length (now sums)) × (from + count ≤ length (now numbers)) ⌝ }
     ensures { λ b. ⌜ b ≡ meetsAt (now (sums .entry)) (now (numbers .entry)) from count ⌝ }
 {
     let mut r = 0;
@@ -40,6 +26,14 @@ fn meets(sums: &[i64; 8], numbers: &[i64], from: usize, count: usize) -> bool
     true
 }
 
+// Coefficients 1 to m of the first segment are the start state.
+pub fn meets_start(m: usize, start: &[i64], table: &[i64]) -> bool
+    requires { ⌜ (m ≤ length (now start)) × (m < length (now table)) ⌝ }
+    ensures { λ b. ⌜ ((segments : ℕ) → b ≡ meetsStart m segments (now (table .entry)) (now (start .entry))) ⌝ }
+{
+    meets(table, start, 0, m)
+}
+
 // All before is good, and segment i meets its equations.
 fn segment_meets(
     before: bool,
@@ -49,7 +43,7 @@ fn segment_meets(
     table: &[i64],
     i: usize,
 ) -> bool
-    requires { ⌜ SegmentShaped m (now waypoints) (now end) (now table) i × Summable m (now table) i ⌝ }
+    requires { ⌜ Shaped m (now waypoints) (now end) (now table) × (i < length (now waypoints) - 1) × Summable m (now table) i ⌝ }
     ensures { λ b. ⌜ b ≡ (before && segmentMeets m (now (waypoints .entry)) (now (end .entry)) (now (table .entry)) i) ⌝ }
 {
     if !before {
@@ -83,7 +77,7 @@ fn segment_answer(
     table: &[i64],
     i: usize,
 ) -> MasterAnswer
-    requires { ⌜ SegmentShaped m (now waypoints) (now end) (now table) i ⌝ }
+    requires { ⌜ Shaped m (now waypoints) (now end) (now table) × (i < length (now waypoints) - 1) ⌝ }
     ensures { λ r. ⌜ masterSays r ≡ segmentSays before m (now (waypoints .entry)) (now (end .entry)) (now (table .entry)) i ⌝ }
 {
     let cells = 2 * m + 2;
@@ -106,7 +100,7 @@ pub fn check_segment(
     table: &[i64],
     i: usize,
 ) -> MasterAnswer
-    requires { ⌜ SegmentShaped m (now waypoints) (now end) (now table) i ⌝ }
+    requires { ⌜ Shaped m (now waypoints) (now end) (now table) × (i < length (now waypoints) - 1) ⌝ }
     ensures { λ r. ⌜ masterSays r ≡ segmentSays before m (now (waypoints .entry)) (now (end .entry)) (now (table .entry)) i ⌝ }
 {
     if m == 1 {

@@ -1,4 +1,5 @@
--- Two good tables of the same waypoints and states are equal: `tables-equal`. Their difference solves the homogeneous equations, so it is zero. Assumes nothing.
+-- Two good tables of the same waypoints and states are equal: `tables-equal`. Their difference solves the homogeneous equations, so it is zero.
+-- Assumes nothing.
 use mathlib.Core.Path.{_≡_, refl, sym, ap, ap₂, _∙_}
 use mathlib.Core.List.{List, [], _∷_}
 use Prim.Native.Nat.{ℕ, zero, suc, _+_, _-_, _*_, _/_, _%_, _<_, _≤_}

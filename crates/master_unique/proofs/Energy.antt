@@ -109,7 +109,8 @@ module _ (x : ℕ → ℤ) where
   combination-zero : (cs : List ℕ) (i : ℕ) → ((k : ℕ) → i ≤ k → k < i + length cs → x k ≡ pos 0) → value x (combination cs i) ≡ pos 0
   combination-zero [] i z = refl
   combination-zero (c ∷ cs) i z =
-      ap₂ _+ℤ_ (ap (λ (a : ℤ). pos c *ℤ a) (z i (omega arith) (omega arith)) ∙ *ℤ-zero (pos c)) (combination-zero cs (suc i) (λ k l h. z k (omega arith) (omega arith)))
+      ap₂ _+ℤ_ (ap (λ (a : ℤ). pos c *ℤ a) (z i (omega arith) (omega arith)) ∙ *ℤ-zero (pos c))
+      (combination-zero cs (suc i) (λ k l h. z k (omega arith) (omega arith)))
 
   -- back substitution: a square that is zero, where the coefficients after its first are, has the first zero too
   first-zero : (q : Square) (after i : ℕ) → T (proper q after) → (let n = natAbs (value x (root q i)) in q .weight * (n * n) ≡ 0)

@@ -5,7 +5,7 @@ use lib.Dec.{T, eqb→eq, leb→le}
 use lib.ListN.{length}
 use Rattle.rules.specs.Tables.{mOf}
 use Rattle.rules.specs.Build.{validOrder}
-use Rattle.rules.specs.Master.{MasterSet, Equations, segments, masterQuestions, shapeQuestions, numberQuestions, masterNumber, checkMaster}
+use Rattle.rules.specs.Master.{MasterSet, Equations, segments, masterQuestions, sizeQuestions, lengthQuestions, numberQuestions, masterNumber, checkMaster}
 use Rattle.rules.proofs.Questions.{answerAt, said-yes}
 use Rattle.rules.proofs.Build.{coefficient-count}
 use Rattle.rules.proofs.Master.{yes-iff}
@@ -19,7 +19,7 @@ pub record Good (s : MasterSet) : Type 0 where
   pub equations : Equations s
 
 pub good : (s : MasterSet) → T (checkMaster s .good) → Good s
-unfolding masterNumber masterQuestions shapeQuestions numberQuestions
+unfolding masterNumber masterQuestions sizeQuestions lengthQuestions numberQuestions
 good s t =
     let said = yes-iff s .0 t in
     let yes-to : (k : ℕ) → T (answerAt (masterQuestions s) k) = said-yes (masterQuestions s) tt (said .0) in

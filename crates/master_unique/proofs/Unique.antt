@@ -86,4 +86,5 @@ two-calls-that-said-yes order w w′ start start′ end end′ table table′ an
 
 pub two-point-masters-are-built : TwoPointMastersAreBuilt
 unfolding TwoPointMastersAreBuilt MastersAreUnique axisSet
-two-point-masters-are-built b cells axis accepted w inside small t e y = masters-are-unique (axisSet b axis) t e (two-points-checked b cells axis accepted w inside small) y
+two-point-masters-are-built b cells axis accepted w inside small t e y =
+    masters-are-unique (axisSet b axis) t e (two-points-checked b cells axis accepted w inside small) y

@@ -1,13 +1,31 @@
 // Demand 3: the table of a master is unique. The statement stands in specs/, its proof in proofs/. The function here
 // is the check called twice, so that a caller has demand 3 as a promise of code.
 ghost use mathlib.Core.Path.{_≡_};
-ghost use mathlib.Core.Bool.{true, _&&_};
 ghost use mathlib.Core.Logic.{_↔_};
-ghost use Rattle.rules.specs.Master.{setOf, checkMaster};
-use master::is_yes;
+ghost use Rattle.rules.specs.declared.MasterAnswer.the-variants.{Yes};
+ghost use Rattle.rules.specs.Master.{setOf, masterSays};
+ghost use Rattle.master_unique.specs.Both.{bothSay, checkBoth};
+use master::check_master;
+use rules::MasterAnswer;
 
-// Does the check say yes to two sets of one order? Where it does, the tables are equal exactly when the waypoints, the
-// start states and the end states are.
+// The answers to two sets as one: the first refusal, else a no, else yes.
+fn both(first: MasterAnswer, second: MasterAnswer) -> MasterAnswer
+    ensures { λ r. ⌜ masterSays r ≡ bothSay (masterSays first) (masterSays second) ⌝ }
+{
+    match first {
+        MasterAnswer::Refused(_) => first,
+        MasterAnswer::Yes => second,
+        MasterAnswer::No => match second {
+            MasterAnswer::Refused(_) => second, // the second set
+            MasterAnswer::Yes => first,
+            MasterAnswer::No => first,
+        },
+    }
+}
+
+// Does the check say yes to two sets of one order? Yes: to both, and then the tables are equal exactly when the waypoints,
+// the start states and the end states are. No: it refuses neither, and says no to one or to both. Refused: it refuses the
+// first set with this number, or else the second.
 pub fn both_yes(
     order: usize,
     waypoints: &[i64],
@@ -18,12 +36,17 @@ pub fn both_yes(
     other_start: &[i64],
     other_end: &[i64],
     other_table: &[i64],
-) -> bool
-    ensures { λ r. ⌜ r ≡ (checkMaster (setOf order (now (waypoints .entry)) (now (start .entry)) (now (end .entry)) (now (table .entry))) .good && checkMaster (setOf order (now («other_waypoints» .entry)) (now («other_start» .entry)) (now («other_end» .entry)) (now («other_table» .entry))) .good) ⌝ }
-    ensures { λ r. ⌜ (r ≡ true → (now (table .entry) ≡ now («other_table» .entry)) ↔ ((now (waypoints .entry) ≡ now («other_waypoints» .entry)) × (now (start .entry) ≡ now («other_start» .entry)) × (now (end .entry) ≡ now («other_end» .entry)))) ⌝ }
+) -> MasterAnswer
+    ensures { λ r. ⌜ masterSays r ≡ checkBoth
+        (setOf order (now (waypoints .entry)) (now (start .entry)) (now (end .entry)) (now (table .entry)))
+        (setOf order (now («other_waypoints» .entry)) (now («other_start» .entry)) (now («other_end» .entry)) (now («other_table» .entry))) ⌝ }
+    ensures { λ r. ⌜ (r ≡ Yes
+        → (now (table .entry) ≡ now («other_table» .entry))
+        ↔ ((now (waypoints .entry) ≡ now («other_waypoints» .entry))
+        × (now (start .entry) ≡ now («other_start» .entry))
+        × (now (end .entry) ≡ now («other_end» .entry)))) ⌝ }
 {
-    if !is_yes(master::check_master(order, waypoints, start, end, table)) {
-        return false;
-    }
-    is_yes(master::check_master(order, other_waypoints, other_start, other_end, other_table))
+    let first = check_master(order, waypoints, start, end, table);
+    let second = check_master(order, other_waypoints, other_start, other_end, other_table);
+    both(first, second)
 }

@@ -15,7 +15,7 @@ use Rattle.rules.specs.Build.{innerNumbers, nodeNumbers, axisCoefficient
 use Rattle.rules.specs.Query.{validLevel, inRange, queryQuestions, pathQuestions, bufferQuestions, rangeQuestions, queryNumber, clamped, scaled, wholePart, exactRest, located, lookup, lookupSays}
 use Rattle.rules.specs.Query.{derivativeFactor, term, fusedSteps, fusedDerivative, generalLoop, loopDerivative, evalPoly, perUnitOfS, segmentOf}
 use Rattle.rules.specs.Query.{derivative, derivativeAfter}
-use Rattle.rules.specs.Master.{within, masterQuestions, shapeQuestions, numberQuestions, masterNumber, binomial, sumℤ, atEnd, same, meetsLeft, meetsRight, meetsStart, meetsEnd, meetsJoints}
+use Rattle.rules.specs.Master.{within, masterQuestions, sizeQuestions, lengthQuestions, numberQuestions, masterNumber, binomial, sumℤ, atEnd, same, meetsLeft, meetsRight, meetsStart, meetsEnd, meetsJoints}
 use Rattle.rules.specs.Master.{endpointEquations, jointEquations, checkMaster}
 use Rattle.rules.specs.Pieces.{holds, input, buildOf, exactly, alike, allAlike, tableOf, queryOf, oneEach, curve, atRest, starting, setOfD, greatest, starred, further}
 
@@ -29,7 +29,7 @@ unfolding holds input buildOf exactly alike allAlike tableOf queryOf oneEach cur
     innerNumbers nodeNumbers axisCoefficients divided boundaryNumber axisWaypoints axisState table bufferAfter
     validLevel inRange queryQuestions pathQuestions bufferQuestions rangeQuestions queryNumber clamped scaled wholePart exactRest located lookup lookupSays
     derivativeFactor term fusedSteps fusedDerivative generalLoop loopDerivative evalPoly perUnitOfS segmentOf derivative derivativeAfter
-    within masterQuestions shapeQuestions numberQuestions masterNumber binomial sumℤ atEnd same meetsLeft meetsRight meetsStart meetsEnd meetsJoints
+    within masterQuestions sizeQuestions lengthQuestions numberQuestions masterNumber binomial sumℤ atEnd same meetsLeft meetsRight meetsStart meetsEnd meetsJoints
     endpointEquations jointEquations checkMaster
 both = (tt, tt)
 

@@ -32,14 +32,18 @@ setOf order waypoints start end table = record { order = order; waypoints = wayp
 unfoldable pub within : ℤ → Bool
 within z = leb (natAbs z) (2 ^ 40)
 
--- the questions about the lengths of a set, in order
-unfoldable pub shapeQuestions : MasterSet → List Question
-shapeQuestions s =
+-- the questions that every routine on masters asks first: about the order and the number of waypoints
+unfoldable pub sizeQuestions : ℕ → ℕ → List Question
+sizeQuestions order points =
+    ask (validOrder order) 302 ∷
+    ask (leb 2 points) 304 ∷
+    ask (leb points 257) 2 ∷ []
+
+-- about the lengths of a set's states and of its table
+unfoldable pub lengthQuestions : MasterSet → List Question
+lengthQuestions s =
     let m = mOf (s .order) in
     let points = length (s .waypoints) in
-    ask (validOrder (s .order)) 302 ∷
-    ask (leb 2 points) 304 ∷
-    ask (leb points 257) 2 ∷
     ask (eqb (length (s .start)) m) 303 ∷
     ask (eqb (length (s .end)) m) 303 ∷
     ask (eqb (length (s .table)) ((points - 1) * (s .order + 1))) 2 ∷ []
@@ -48,9 +52,9 @@ shapeQuestions s =
 unfoldable pub numberQuestions : MasterSet → List Question
 numberQuestions s = ask (all within (s .waypoints) && all within (s .start) && all within (s .end) && all within (s .table)) 4 ∷ []
 
--- all questions before a master check
+-- all questions before a master check, in order
 unfoldable pub masterQuestions : MasterSet → List Question
-masterQuestions s = shapeQuestions s ++ numberQuestions s
+masterQuestions s = sizeQuestions (s .order) (length (s .waypoints)) ++ lengthQuestions s ++ numberQuestions s
 
 unfoldable pub masterNumber : MasterSet → ℕ
 masterNumber s = firstNo (masterQuestions s)

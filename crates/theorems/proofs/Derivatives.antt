@@ -78,11 +78,13 @@ derived-at1 zero (suc n) c =
     ∙ +ℤ-comm (derivativeAt1 n (λ j. c (suc j)) 0) (pos 1 *ℤ c 0)
     ∙ sym (sum-first n _)
 derived-at1 (suc k) (suc n) c =
-    ap₂ _+ℤ_ (*ℤ-one _ ∙ derived-at1 (suc k) n (λ j. c (suc j))) (ap (λ (z : ℤ). pos (suc k) *ℤ z) (derived-at1 k n (λ j. c (suc j))) ∙ sym (sum-times n (pos (suc k)) _))
+    ap₂ _+ℤ_ (*ℤ-one _ ∙ derived-at1 (suc k) n (λ j. c (suc j)))
+    (ap (λ (z : ℤ). pos (suc k) *ℤ z) (derived-at1 k n (λ j. c (suc j))) ∙ sym (sum-times n (pos (suc k)) _))
     ∙ sym (sum-add n _ _)
     ∙ sum-same n _ _ (λ j l. both (derivativeFactor j (suc k)) (derivativeFactor j k) (c (suc j)) ∙ ap (λ (f : ℕ). pos f *ℤ c (suc j)) (sym (factor-step j k)))
     ∙ sym (+ℤ-idl _)
-    ∙ ap (λ (z : ℤ). z +ℤ sumℤ n (λ j. pos (derivativeFactor (suc j) (suc k)) *ℤ c (suc j))) (sym (zero-*ℤ (c 0)) ∙ ap (λ (f : ℕ). pos f *ℤ c 0) (sym (zero-mul _)))
+    ∙ ap (λ (z : ℤ). z +ℤ sumℤ n (λ j. pos (derivativeFactor (suc j) (suc k)) *ℤ c (suc j)))
+    (sym (zero-*ℤ (c 0)) ∙ ap (λ (f : ℕ). pos f *ℤ c 0) (sym (zero-mul _)))
     ∙ sym (sum-first n _)
   where
     both : (f g : ℕ) (z : ℤ) → pos f *ℤ z +ℤ pos (suc k) *ℤ (pos g *ℤ z) ≡ pos (f + suc k * g) *ℤ z

@@ -134,7 +134,8 @@ module _ {t : Float} {w : ℤ} (end : End t w) where
   loop-first x f v (suc (suc zero)) = nothing 1
   loop-first x f v (suc (suc (suc k))) = nothing (suc (suc k))
 
-  loop-next : (x y : Float) (rest : List Float) (f : ℕ → ℤ) → length rest < 7 → Within (2 ^ 40) x (f 0) → ((k : ℕ) → k < 4 → Found (y ∷ rest) (λ j. f (suc j)) k)
+  loop-next : (x y : Float) (rest : List Float) (f : ℕ → ℤ) → length rest < 7 → Within (2 ^ 40) x (f 0)
+      → ((k : ℕ) → k < 4 → Found (y ∷ rest) (λ j. f (suc j)) k)
       → (k : ℕ) → k < 4 → Found (x ∷ (y ∷ rest)) f k
   unfolding generalLoop loopDerivative most derived
   loop-next x y rest f h v b k l = go k l (loop-room k (suc (suc (length rest))) l (omega arith))
@@ -189,7 +190,8 @@ module _ (a : List Float) (all-within : T (all wholeWithin a)) where
         let terms : ℕ → Float = λ j. term a k (k + j) in
         let count : length (listed n terms) ≡ n = length-listed n terms in
         subst (HasWhole _) (ap (λ (m : ℕ). derived w 0 m (factored k c)) count ∙ value .own k n c (omega arith) ∙ ap (λ (m : ℕ). z m c k) (omega arith))
-        (fused-within end (listed n terms) (factored k c) (omega arith) (λ i l″. rw (listed-at +0 n terms i (omega arith)) (term-within k (k + i) h (omega arith))) .whole)
+        (fused-within end (listed n terms) (factored k c) (omega arith)
+        (λ i l″. rw (listed-at +0 n terms i (omega arith)) (term-within k (k + i) h (omega arith))) .whole)
 
     loop-is : length a ≡ 8 → HasWhole (loopDerivative (generalLoop t a) k) (z 8 c k)
     loop-is e =

@@ -21,16 +21,18 @@ use Rattle.rules.specs.Floats.{_⊖_, _!_, +0}
 use Rattle.rules.specs.Lists.{all, every, listed, joined}
 use Rattle.rules.specs.Questions.{ask, firstNo}
 use Rattle.rules.specs.Tables.{mOf}
-use Rattle.rules.specs.Build.{BuildInput, buildNumber, boundaryNumber, validOrder, dy, segmentCoefficients, nodeNumbers, axisCoefficients, axisWaypoints, axisState}
-use Rattle.rules.specs.Master.{MasterSet, MasterSays, Equations, within, at, coefficient, masterQuestions, shapeQuestions, numberQuestions, masterNumber}
+use Rattle.rules.specs.Build.{BuildInput, buildNumber, validOrder, dy, segmentCoefficients, nodeNumbers, axisCoefficients, axisWaypoints, axisState}
+use Rattle.rules.specs.Master.{MasterSet, MasterSays, Equations, within, at, coefficient}
+use Rattle.rules.specs.Master.{masterQuestions, sizeQuestions, lengthQuestions, numberQuestions, masterNumber}
 use Rattle.rules.specs.Master.{meetsJoints, endpointEquations, jointEquations, checkMaster, masterSays}
-use Rattle.rules.proofs.Lists.{all-at, all-of}
-use Rattle.rules.proofs.Filling.{all-listed}
+use Rattle.rules.proofs.Lists.{all-at, all-of, length-listed}
+use Rattle.rules.proofs.Filling.{all-listed, listed-ext}
 use Rattle.rules.proofs.Master.{of-equations}
-use Rattle.rules.proofs.Build.{length-segment, length-state, coefficient-count}
-use Rattle.theorems.specs.Axes.{marked, axisPart}
-use Rattle.theorems.specs.Exact.{wholeWithin, wholeState, WholeTwoPoints, axisSet, Exact, TwoPointsAreExact}
-use Rattle.theorems.proofs.Parts.{coefficientsOf, order-valid, part-is}
+use Rattle.rules.proofs.Build.{length-segment, coefficient-count}
+use Rattle.theorems.specs.Independent.{marked, givenNumber, axisPart}
+use Rattle.theorems.specs.Exact.{wholeWithin, wholeState, WholeTwoPoints, givenState, axisSet, Exact, TwoPointsAreExact}
+use Rattle.theorems.proofs.AxisPart.{coefficientsOf, order-valid, part-is}
+use Rattle.theorems.proofs.Independent.{boundary-is}
 use Rattle.theorems.proofs.Sums.{form}
 use Rattle.theorems.proofs.Tables.{coefficientForm, TableFacts, table-facts}
 use Rattle.theorems.proofs.Segment.{numbers, meets}
@@ -55,7 +57,8 @@ all-within : (xs : List Float) → T (all wholeWithin xs) → all within (map wh
 unfolding all wholeWithin
 all-within [] t = refl
 all-within (x ∷ xs) t =
-    ap₂ _&&_ (is-true (within (wholeOf x)) (and-r (isWhole x) _ (and-l (wholeWithin x) (all wholeWithin xs) t))) (all-within xs (and-r (wholeWithin x) (all wholeWithin xs) t))
+    ap₂ _&&_ (is-true (within (wholeOf x)) (and-r (isWhole x) _ (and-l (wholeWithin x) (all wholeWithin xs) t)))
+    (all-within xs (and-r (wholeWithin x) (all wholeWithin xs) t))
 
 -- the check's last question, and its answer
 
@@ -64,7 +67,11 @@ unfolding firstNo
 asked true = refl
 asked false = refl
 
-says : (t : Bool) → _≡_ {A = MasterSays} (record { refused = not (eqb (cond t 0 4) 0); number = cond t 0 4; good = eqb (cond t 0 4) 0 && true && true }) (masterSays (cond t Yes (Refused 4)))
+-- what the check says where it answers n and the equations are met or not
+abbrev answering : ℕ → Bool → MasterSays
+answering n met = record { refused = not (eqb n 0); number = n; good = eqb n 0 && met && true }
+
+says : (t : Bool) → answering (cond t 0 4) true ≡ masterSays (cond t Yes (Refused 4))
 unfolding masterSays
 says true = refl
 says false = refl
@@ -124,7 +131,7 @@ module _ (order : ℕ) (u v : Float) (left right : List Float) where
     endpoints = of-equations set equations .0
 
     number : masterNumber set ≡ cond (all within (set .table)) 0 4
-    unfolding masterNumber masterQuestions shapeQuestions numberQuestions firstNo
+    unfolding masterNumber masterQuestions sizeQuestions lengthQuestions numberQuestions firstNo
     number =
         rw (
           is-true (validOrder order) valid,
@@ -138,33 +145,43 @@ module _ (order : ℕ) (u v : Float) (left right : List Float) where
 
     check : checkMaster set ≡ masterSays (cond (all within (set .table)) Yes (Refused 4))
     unfolding checkMaster jointEquations meetsJoints every
-    check = ap₂ (λ (n : ℕ) (t : Bool). record { refused = not (eqb n 0); number = n; good = eqb n 0 && t && true }) number (is-true (endpointEquations set) endpoints) ∙ says (all within (set .table))
+    check = ap₂ answering number (is-true (endpointEquations set) endpoints) ∙ says (all within (set .table))
 
     exact-segment : Exact segment set
     exact-segment = record { whole = whole; endpoints = endpoints; equations = equations; check = check }
 
 -- ---- an axis of a build
 
--- a number of an unmarked state of whole numbers
-number-within : (axes : ℕ) (inv : Float) (state : BoundaryState) (numbers : List Float) (axis r : ℕ) → marked state ≡ false → T (wholeState state numbers)
-    → T (wholeWithin (boundaryNumber axes inv state numbers axis r))
-unfolding wholeState marked boundaryNumber
-number-within axes inv None numbers axis r e t = zero-within
-number-within axes inv (Given rows columns perUnit) numbers axis r e t = rw e (all-at wholeWithin numbers +0 zero-within t (r * axes + axis))
+-- a number of a state of whole numbers
+number-within : (axes : ℕ) (state : BoundaryState) (numbers : List Float) (axis r : ℕ) → T (wholeState state numbers)
+    → T (wholeWithin (givenNumber axes state numbers axis r))
+unfolding wholeState givenNumber
+number-within axes None numbers axis r t = zero-within
+number-within axes (Given rows columns perUnit) numbers axis r t = all-at wholeWithin numbers +0 zero-within t (r * axes + axis)
 
 module _ (b : BuildInput) (cells axis : ℕ) (accepted : buildNumber b cells ≡ 0) (w : WholeTwoPoints b) (inside : axis < b .axes) where
   abbrev start : List Float
-  start = axisState b (b .config .«start_state») (b .start) axis
+  start = givenState b (b .config .«start_state») (b .start) axis
 
   abbrev end : List Float
-  end = axisState b (b .config .«end_state») (b .end) axis
+  end = givenState b (b .config .«end_state») (b .end) axis
 
   abbrev waypoint : ℕ → Float
   waypoint p = b .waypoints ! (p * b .axes + axis)
 
-  state-within : (state : BoundaryState) (numbers : List Float) → marked state ≡ false → T (wholeState state numbers) → T (all wholeWithin (axisState b state numbers axis))
-  unfolding axisState
-  state-within state numbers e t = all-listed wholeWithin _ _ (λ r. number-within (b .axes) _ state numbers axis r e t)
+  module _ (state : BoundaryState) (numbers : List Float) where
+    length-given : length (givenState b state numbers axis) ≡ mOf (b .config .order)
+    unfolding givenState
+    length-given = length-listed _ _
+
+    state-within : T (wholeState state numbers) → T (all wholeWithin (givenState b state numbers axis))
+    unfolding givenState
+    state-within t = all-listed wholeWithin _ _ (λ r. number-within (b .axes) state numbers axis r t)
+
+    -- the build uses an unmarked state as it is given
+    used-as-given : marked state ≡ false → axisState b state numbers axis ≡ givenState b state numbers axis
+    unfolding axisState givenState
+    used-as-given e = listed-ext _ _ _ (λ r l. boundary-is (b .axes) _ state numbers axis r ∙ rw e)
 
   waypoints-are : axisWaypoints b axis ≡ waypoint 0 ∷ waypoint 1 ∷ []
   unfolding axisWaypoints listed
@@ -178,7 +195,11 @@ module _ (b : BuildInput) (cells axis : ℕ) (accepted : buildNumber b cells ≡
   coefficients-are : coefficientsOf b axis ≡ segment (b .config .order) (waypoint 0) (waypoint 1) start end
   unfolding coefficientsOf axisCoefficients joined nodeNumbers dy
   coefficients-are =
-      ap₂ (λ (n : ℕ) (ws : List Float). axisCoefficients (mOf (b .config .order)) n ws start end) (ap (λ (p : ℕ). p - 2) (w .points)) waypoints-are
+      rw (
+        used-as-given (b .config .«start_state») (b .start) (w .startUnmarked),
+        used-as-given (b .config .«end_state») (b .end) (w .endUnmarked),
+      )
+      (ap₂ (λ (n : ℕ) (ws : List Float). axisCoefficients (mOf (b .config .order)) n ws start end) (ap (λ (p : ℕ). p - 2) (w .points)) waypoints-are)
 
   part : axisPart b axis ≡ segment (b .config .order) (waypoint 0) (waypoint 1) start end
   part = part-is b cells accepted axis inside ∙ coefficients-are
@@ -190,10 +211,12 @@ module _ (b : BuildInput) (cells axis : ℕ) (accepted : buildNumber b cells ≡
   exact-axis : Exact (axisPart b axis) (axisSet b axis)
   exact-axis =
       subst₂ Exact (sym part) (sym set-is)
-      (exact-segment (b .config .order) (waypoint 0) (waypoint 1) start end (order-valid b cells accepted) (length-state b _ _ axis) (length-state b _ _ axis)
+      (exact-segment (b .config .order) (waypoint 0) (waypoint 1) start end (order-valid b cells accepted)
+      (length-given (b .config .«start_state») (b .start))
+      (length-given (b .config .«end_state») (b .end))
       waypoints-within
-      (state-within (b .config .«start_state») (b .start) (w .startUnmarked) (w .start))
-      (state-within (b .config .«end_state») (b .end) (w .endUnmarked) (w .end)))
+      (state-within (b .config .«start_state») (b .start) (w .start))
+      (state-within (b .config .«end_state») (b .end) (w .end)))
 
 pub two-points-are-exact : TwoPointsAreExact
 unfolding TwoPointsAreExact

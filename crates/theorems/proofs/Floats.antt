@@ -89,7 +89,8 @@ module _ (m i : ℕ) (y d : ℤ) (left right : List ℤ) (full : length left ≡
       ∙ sum-split (2 + m) m term
       ∙ ap₂ _+ℤ_
       (sum-split 2 m term
-      ∙ ap₂ _+ℤ_ first-two (sum-same m _ _ (λ j l. term-is (1 + j) (2 + j) (suc (suc j)) _ (omega arith) (omega arith) (number-left m y d left right full j l))))
+      ∙ ap₂ _+ℤ_ first-two
+      (sum-same m _ _ (λ j l. term-is (1 + j) (2 + j) (suc (suc j)) _ (omega arith) (omega arith) (number-left m y d left right full j l))))
       (sum-same m _ _ (λ j l. term-is (1 + m + j) (2 + m + j) (suc (suc (m + j))) _ (omega arith) (omega arith) (number-right m y d left right full j)))
     where
       two-more : (m : ℕ) → 2 * m + 2 ≡ 2 + m + m

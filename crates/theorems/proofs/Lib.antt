@@ -1,5 +1,5 @@
-pub mod Parts
-pub mod Axes
+pub mod AxisPart
+pub mod Independent
 pub mod Sums
 pub mod Tables
 pub mod Segment

@@ -19,19 +19,20 @@ use Rattle.rules.specs.Floats.{_!_, +0, +1}
 use Rattle.rules.specs.Lists.{all}
 use Rattle.rules.specs.Tables.{mOf}
 use Rattle.rules.specs.Build.{BuildInput, validOrder, buildNumber, axisWaypoints}
-use Rattle.rules.specs.Master.{MasterSet, MasterSays, Equations, within, coefficient, binomial, sumℤ, atEnd, segments, masterQuestions, shapeQuestions, numberQuestions, masterNumber, checkMaster, masterSays}
+use Rattle.rules.specs.Master.{MasterSet, MasterSays, Equations, within, coefficient, binomial, sumℤ, atEnd, segments}
+use Rattle.rules.specs.Master.{masterQuestions, sizeQuestions, lengthQuestions, numberQuestions, masterNumber, checkMaster, masterSays}
 use Rattle.rules.specs.Query.{derivativeFactor, evalPoly}
 use Rattle.rules.proofs.Lists.{all-at, all-of, length-listed}
 use Rattle.rules.proofs.Questions.{said-yes}
 use Rattle.rules.proofs.Build.{by-order, coefficient-count}
 use Rattle.rules.proofs.Master.{yes-iff}
-use Rattle.theorems.specs.Axes.{axisPart}
+use Rattle.theorems.specs.Independent.{axisPart}
 use Rattle.theorems.specs.Exact.{wholeWithin, WholeTwoPoints, axisSet, Exact, TwoPointsAreExact}
 use Rattle.theorems.specs.Evaluation.{IsNumber, derivativeAt0, derivativeAt1, ExactAtEnds, WholeNumbersEvaluateExactly}
 use Rattle.theorems.specs.Masters.{IsSegment, MeetsItsMaster, MastersEvaluateExactly, TwoPointsEvaluateExactly}
 use Rattle.theorems.proofs.Sums.{sum-same, sum-times}
 use Rattle.theorems.proofs.Derivatives.{factor-binomial}
-use Rattle.theorems.proofs.Parts.{axis-length, part-is}
+use Rattle.theorems.proofs.AxisPart.{axis-length, part-is}
 use Rattle.theorems.proofs.Exact.{first-segment, two-points-are-exact}
 use Rattle.theorems.proofs.Evaluation.{whole-numbers-evaluate-exactly}
 
@@ -46,11 +47,11 @@ module _ (s : MasterSet) (accepted : masterNumber s ≡ 0) where
   m = mOf (s .order)
 
   order-valid : T (validOrder (s .order))
-  unfolding masterNumber masterQuestions shapeQuestions numberQuestions
+  unfolding masterNumber masterQuestions sizeQuestions lengthQuestions numberQuestions
   order-valid = said-yes (masterQuestions s) tt accepted 0
 
   table-within : T (all within (s .table))
-  unfolding masterNumber masterQuestions shapeQuestions numberQuestions
+  unfolding masterNumber masterQuestions sizeQuestions lengthQuestions numberQuestions
   table-within =
       and-r (all within (s .waypoints) && all within (s .start) && all within (s .end)) (all within (s .table)) (said-yes (masterQuestions s) tt accepted 6)
 
@@ -63,7 +64,8 @@ module _ (s : MasterSet) (accepted : masterNumber s ≡ 0) where
     segment-within =
         all-of wholeWithin a +0 (λ j l.
         and-i (isWhole (a ! j)) _ (all-at isWhole a +0 tt (segment .whole) j)
-        (subst (λ (z : ℤ). T (within z)) (sym (segment .numbers j (subst (λ (n : ℕ). j < n) (segment .count) l))) (all-at within (s .table) (pos 0) tt table-within _)))
+        (subst (λ (z : ℤ). T (within z)) (sym (segment .numbers j (subst (λ (n : ℕ). j < n) (segment .count) l)))
+        (all-at within (s .table) (pos 0) tt table-within _)))
 
     ends : (k : ℕ) → k ≤ 3 → ExactAtEnds (s .order) a k
     unfolding WholeNumbersEvaluateExactly

@@ -8,6 +8,7 @@ use lib.Dec.{T, eqb, eqb-refl, leb→le}
 use lib.Ieee.{Float, fin, up, down, lt, eq}
 use lib.Ieee.Bits.{is-true}
 use lib.Ieee.Fits.{and-i, and-l, and-r}
+use Rattle.rules.specs.declared.PathParam.{PathParam}
 use Rattle.rules.specs.Floats.{+0, finite}
 use Rattle.rules.specs.Build.{BuildInput, validRange, invDs, buildQuestions, inputQuestions, pivotQuestions, buildNumber, acceptedRecord}
 use Rattle.rules.specs.Query.{queryQuestions, pathQuestions, bufferQuestions, rangeQuestions, queryNumber}
@@ -33,18 +34,26 @@ module _ (b : BuildInput) (cells : ℕ) (e : buildNumber b cells ≡ 0) where
   unfolding buildQuestions inputQuestions pivotQuestions
   points = (leb→le 2 _ (answered 1), leb→le _ 257 (answered 2))
 
+  abbrev lo : PathParam
+  lo = b .config .«s_min»
+
+  abbrev hi : PathParam
+  hi = b .config .«s_max»
+
+  abbrev inv : Float
+  inv = invDs (b .points - 1) lo hi
+
   -- the quotient is the record's own, and it is finite
-  range : let lo = b .config .«s_min» in let hi = b .config .«s_max» in let inv = invDs (b .points - 1) lo hi in T (validRange (b .points - 1) lo hi && eq inv inv)
+  range : T (validRange (b .points - 1) lo hi && eq inv inv)
   unfolding buildQuestions inputQuestions pivotQuestions validRange
   range =
-      let lo = b .config .«s_min» in
-      let hi = b .config .«s_max» in
-      let inv = invDs (b .points - 1) lo hi in
-      let bounded = and-r (finite (lo .0) && finite (hi .0) && lt (lo .0) (hi .0)) (finite inv) (and-l (finite (lo .0) && finite (hi .0) && lt (lo .0) (hi .0) && finite inv) (lt +0 inv) (answered 8)) in
+      let ordered = finite (lo .0) && finite (hi .0) && lt (lo .0) (hi .0) in
+      let bounded = and-r ordered (finite inv) (and-l (ordered && finite inv) (lt +0 inv) (answered 8)) in
       and-i (validRange (b .points - 1) lo hi) (eq inv inv) (answered 8) (subst T (sym (equals-itself inv bounded)) tt)
 
 pub built-paths-are-served : BuiltPathsAreServed
-unfolding BuiltPathsAreServed queryNumber queryQuestions pathQuestions bufferQuestions rangeQuestions acceptedRecord buildQuestions inputQuestions pivotQuestions
+unfolding
+    BuiltPathsAreServed queryNumber queryQuestions pathQuestions bufferQuestions rangeQuestions acceptedRecord buildQuestions inputQuestions pivotQuestions
 built-paths-are-served b cells s level n e =
     let yes : (k : ℕ) → T (answerAt (buildQuestions b cells) k) = answered b cells e in
     let few : (2 ≤ b .points) × (b .points ≤ 257) = points b cells e in

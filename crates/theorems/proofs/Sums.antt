@@ -94,6 +94,7 @@ form-unit (suc n) x r h = go (below-suc h) (form-unit n x r)
   where
     go : (r ≡ n) ⊎ (r < n) → (r < n → form n (unit r) x ≡ x r) → form n (unit r) x +ℤ unit r n *ℤ x n ≡ x r
     go (inl e) f =
-        ap₂ _+ℤ_ (form-same n x _ _ (λ l k. unit-apart r l (λ d. omega arith)) ∙ form-zero n x) (ap₂ _*ℤ_ (ap (unit r) (sym e) ∙ unit-here r) (ap x (sym e)) ∙ one-*ℤ (x r))
+        ap₂ _+ℤ_ (form-same n x _ _ (λ l k. unit-apart r l (λ d. omega arith)) ∙ form-zero n x)
+        (ap₂ _*ℤ_ (ap (unit r) (sym e) ∙ unit-here r) (ap x (sym e)) ∙ one-*ℤ (x r))
         ∙ +ℤ-idl (x r)
     go (inr l) f = ap₂ _+ℤ_ (f l) (ap (λ (a : ℤ). a *ℤ x n) (unit-apart r n (λ d. omega arith)) ∙ zero-*ℤ (x n)) ∙ +ℤ-idr (x r)

@@ -12,10 +12,11 @@ use Rattle.law_rounding.specs.Whole.{isWhole, wholeOf}
 use Rattle.rules.specs.declared.BoundaryState.{BoundaryState}
 use Rattle.rules.specs.declared.BoundaryState.the-variants.{None, Given}
 use Rattle.rules.specs.declared.MasterAnswer.the-variants.{Yes, Refused}
-use Rattle.rules.specs.Lists.{all}
-use Rattle.rules.specs.Build.{BuildInput, buildNumber, axisWaypoints, axisState}
+use Rattle.rules.specs.Lists.{all, listed}
+use Rattle.rules.specs.Tables.{mOf}
+use Rattle.rules.specs.Build.{BuildInput, buildNumber, axisWaypoints}
 use Rattle.rules.specs.Master.{MasterSet, within, Equations, endpointEquations, checkMaster, masterSays}
-use Rattle.theorems.specs.Axes.{marked, axisPart}
+use Rattle.theorems.specs.Independent.{marked, givenNumber, axisPart}
 
 -- "whole and within 2^40"; either zero is
 unfoldable pub wholeWithin : Float → Bool
@@ -35,13 +36,17 @@ pub record WholeTwoPoints (b : BuildInput) : Type 0 where
   pub startUnmarked : marked (b .config .«start_state») ≡ false
   pub endUnmarked : marked (b .config .«end_state») ≡ false
 
--- An axis of a build as a set for the check: its waypoints, its states as the build uses them, and its part of the buffer, all as whole numbers.
+-- an axis's m numbers of a state as they are given
+unfoldable pub givenState : BuildInput → BoundaryState → List Float → ℕ → List Float
+givenState b state numbers axis = listed (mOf (b .config .order)) (givenNumber (b .axes) state numbers axis)
+
+-- An axis of a build as a set for the check: its waypoints and states as they are given, and its part of the buffer, all as whole numbers.
 unfoldable pub axisSet : BuildInput → ℕ → MasterSet
 axisSet b axis = record {
   order = b .config .order;
   waypoints = map wholeOf (axisWaypoints b axis);
-  start = map wholeOf (axisState b (b .config .«start_state») (b .start) axis);
-  end = map wholeOf (axisState b (b .config .«end_state») (b .end) axis);
+  start = map wholeOf (givenState b (b .config .«start_state») (b .start) axis);
+  end = map wholeOf (givenState b (b .config .«end_state») (b .end) axis);
   table = map wholeOf (axisPart b axis);
 }
 

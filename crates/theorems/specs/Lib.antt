@@ -1,4 +1,4 @@
-pub mod Axes
+pub mod Independent
 pub mod Exact
 pub mod Evaluation
 pub mod Masters

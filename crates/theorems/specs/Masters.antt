@@ -1,6 +1,6 @@
--- A set to which the check says yes evaluates to what it was made from: by the evaluation in floats each segment starts and ends at its waypoints, the first and
--- the last have the states as derivatives there, and at a joint two segments agree. Nothing is rounded, for the orders 3, 5 and 7. Proved by
--- `masters-evaluate-exactly` and `two-points-evaluate-exactly` of proofs/Masters.antt. Assumes nothing.
+-- A set to which the check says yes evaluates to what it was made from: by the evaluation in floats each segment starts and ends at its waypoints,
+-- the first and the last have the states as derivatives there, and at a joint two segments agree. Nothing is rounded, for the orders 3, 5 and 7.
+-- Proved by `masters-evaluate-exactly` and `two-points-evaluate-exactly` of proofs/Masters.antt. Assumes nothing.
 use mathlib.Core.Path.{_≡_}
 use mathlib.Core.List.{List}
 use Prim.Native.Nat.{ℕ, suc, _+_, _*_, _<_, _≤_}
@@ -15,7 +15,7 @@ use Rattle.rules.specs.Tables.{mOf}
 use Rattle.rules.specs.Build.{BuildInput, buildNumber}
 use Rattle.rules.specs.Master.{MasterSet, within, at, coefficient, segments, checkMaster}
 use Rattle.rules.specs.Query.{derivativeFactor, evalPoly}
-use Rattle.theorems.specs.Axes.{axisPart}
+use Rattle.theorems.specs.Independent.{axisPart}
 use Rattle.theorems.specs.Exact.{WholeTwoPoints, axisSet}
 use Rattle.theorems.specs.Evaluation.{IsNumber}
 

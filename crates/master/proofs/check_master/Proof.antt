@@ -12,30 +12,24 @@ use Rattle.master.proofs.check_master.Tie as tie
 abbrev given : tie.Start → MasterSet
 given p = let a = p .args in setOf (a .order) (a .waypoints .now) (a .start .now) (a .end .now) (a .table .now)
 
-all-yes : (c : tie.Else1) → firstNo (questionsBefore (given (c .before .before))) ≡ 0
-all-yes c = sym (c .before .master-questions .ensures) ∙ c .if1 .left
+abbrev start : tie.Else1 → tie.Start
+start c = c .before .before
 
-master-questions-requires : tie.Need-master-questions-requires
-master-questions-requires c κs = search needs
+all-yes : (c : tie.Else1) → firstNo (questionsBefore (given (start c))) ≡ 0
+all-yes c = sym (c .before .master-questions .ensures) ∙ c .if1 .left
 
 returns : tie.Need-returns
 returns c = refused (given (c .before .before)) (c .before .master-questions .ensures) (c .if1 .taken)
 
-sub-check-segments : tie.Need-sub-check-segments
-sub-check-segments c = let h = shaped (given (c .before .before)) (all-yes c) .least-m in omega arith
-
-check-segments-requires : tie.Need-check-segments-requires
-check-segments-requires c κs = shaped (given (c .before .before)) (all-yes c)
-
 returns-2 : tie.Need-returns-2
-returns-2 c = c .check-segments .ensures ∙ passed (given (c .before .before .before)) (all-yes (c .before))
+returns-2 c = c .check-segments .ensures ∙ passed (given (start (c .before))) (all-yes (c .before))
 
 pub check-master-spec : {M : Type 1} → statement M
 check-master-spec =
     tie.close
     (tie.spec
-    master-questions-requires
+    (λ c κs. search needs)
     returns
-    sub-check-segments
-    check-segments-requires
+    (λ c. omega (arith, shaped (given (start c)) (all-yes c) .0 .least-m))
+    (λ c κs. shaped (given (start c)) (all-yes c))
     returns-2)

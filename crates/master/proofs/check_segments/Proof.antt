@@ -16,8 +16,9 @@ use Rattle.law_rounding.proofs.Sums.{and-true}
 use Rattle.rules.proofs.Lists.{and-assoc, every-more}
 use Rattle.master_equations.specs.Segment.{segmentMeets}
 use Rattle.master.specs.Pass.{meetsUpTo, passSays}
-use Rattle.master.proofs.Parts.{left-next, inside, none-left, segment-shaped}
-use Rattle.master_equations.proofs.Says.{segment-out, was-out, was-within, was-good}
+use Rattle.master.proofs.Pass.{left-next, none-left}
+use Rattle.master_equations.proofs.SegmentPart.{segment-inside}
+use Rattle.master_equations.proofs.SegmentSays.{segment-out, was-out, was-within, was-good}
 use Rattle.master.proofs.check_segments.Statement.{statement}
 use Rattle.master.proofs.check_segments.Tie as tie
 
@@ -31,6 +32,13 @@ Inv-loop m waypoints start end table segments good₀ i₀ good i = Inv m waypoi
 
 abbrev μ-loop : tie.MeasureT-loop
 μ-loop m waypoints start end table segments good₀ i₀ good i = length waypoints - 1 - i
+
+-- places of the code: the entry, from the loop on, and a turn of the loop
+abbrev start : tie.At-loop Inv-loop μ-loop → tie.Start Inv-loop μ-loop
+start c = c .before .before
+
+abbrev turn : tie.After-is-yes Inv-loop μ-loop → tie.In-loop Inv-loop μ-loop
+turn c = c .before .before .before .before
 
 -- no segment yet, and one more
 no-segment : (m : ℕ) (w start end table : List ℤ) → meetsUpTo m w start end table 0 ≡ meetsStart m (length w - 1) table start
@@ -51,20 +59,20 @@ unfolding passSays masterSays
 out-of-range m w start end table e = rw e
 
 -- behind the loop every number is in range, and `good` is the answer
-answered : (c : tie.After-loop Inv-loop μ-loop) → let a = c .before .before .before .args in
+answered : (c : tie.After-loop Inv-loop μ-loop) → let a = start (c .before) .args in
     passSays (a .m) (a .waypoints .now) (a .start .now) (a .end .now) (a .table .now) ≡ record { refused = false; number = 0; good = c .before .loop .good }
 unfolding passSays
 answered c =
     let l = c .before .loop in
-    let s = c .before .before .before in
+    let s = start (c .before) in
     let n : length (s .args .waypoints .now) - 1 ≡ l .i = le-antisymm (c .loop-test .left) (l .inv .most) in
-    rw (l .inv .left ∙ none-left (s .pre) (l .inv .most) (c .loop-test .left), n, ← l .inv .met)
-
-sub-segments : tie.Need-sub-segments Inv-loop μ-loop
-sub-segments c = let h = c .pre .least in omega arith
+    rw (l .inv .left ∙ none-left (s .pre .0) (l .inv .most) (c .loop-test .left), n, ← l .inv .met)
 
 meets-start-requires : tie.Need-meets-start-requires Inv-loop μ-loop
-meets-start-requires c κs = let h = inside (c .pre) {i = 0} (let k = c .pre .least in omega arith) in (omega (arith, c .pre .start-is), omega (arith, h))
+meets-start-requires c κs =
+    let two = c .pre .0 .least in
+    let h = segment-inside (c .pre .0) {i = 0} (omega arith) in
+    (omega (arith, c .pre .1), omega (arith, h))
 
 loop-holds : tie.Need-loop-holds Inv-loop μ-loop
 loop-holds c =
@@ -72,10 +80,7 @@ loop-holds c =
     record { most = omega arith; met = c .meets-start .ensures (length w - 1) ∙ sym (no-segment _ w _ _ _); left = rw zero-mul }
 
 check-segment-requires : tie.Need-check-segment-requires Inv-loop μ-loop
-check-segment-requires c κs = segment-shaped (c .before .before .before .pre) (c .loop-test .taken)
-
-is-refused-requires : tie.Need-is-refused-requires Inv-loop μ-loop
-is-refused-requires c κs = search needs
+check-segment-requires c κs = (start (c .before) .pre .0, c .loop-test .taken)
 
 -- where a segment's answer is not a refusal
 went-on : (c : tie.Else1 Inv-loop μ-loop) → masterSays (c .before .before .check-segment .result) .refused ≡ false
@@ -85,26 +90,17 @@ returns : tie.Need-returns Inv-loop μ-loop
 returns c =
     let said = c .before .before in
     let d = said .before in
-    let s = d .before .before .before in
+    let s = start (d .before) in
     let out = was-out _ _ _ _ _ _ (said .check-segment .ensures) (sym (c .before .is-refused .ensures) ∙ c .if1 .taken) in
     said .check-segment .ensures
     ∙ segment-out _ _ _ _ _ _ out
     ∙ sym (out-of-range _ _ _ _ _ (d .before .loop .inv .left ∙ left-next (s .args .m) (s .args .table .now) _ out))
 
-is-yes-requires : tie.Need-is-yes-requires Inv-loop μ-loop
-is-yes-requires c κs = search needs
-
-add-i : tie.Need-add-i Inv-loop μ-loop
-add-i c = let h = c .before .before .before .before .loop-test .taken in omega arith
-
-loop-less : tie.Need-loop-less Inv-loop μ-loop
-loop-less c = let h = c .before .before .before .before .loop-test .taken in omega arith
-
 loop-again : tie.Need-loop-again Inv-loop μ-loop
 loop-again c =
     let said = c .before .before .before in
-    let d = said .before in
-    let s = d .before .before .before in
+    let d = turn c in
+    let s = start (d .before) in
     let on = went-on (c .before) in
     record {
       most = let h = d .loop-test .taken in omega arith;
@@ -129,15 +125,15 @@ check-segments-spec =
     (tie.spec
     Inv-loop
     μ-loop
-    sub-segments
+    (λ c. omega (arith, c .pre .0 .least))
     meets-start-requires
     loop-holds
     check-segment-requires
-    is-refused-requires
+    (λ c κs. search needs)
     returns
-    is-yes-requires
-    add-i
-    loop-less
+    (λ c κs. search needs)
+    (λ c. omega (arith, turn c .loop-test .taken))
+    (λ c. omega (arith, turn c .loop-test .taken))
     loop-again
     returns-2
     returns-3)

@@ -4,34 +4,28 @@ use Rattle.questions.proofs.Tests.{no, yes, both, last-decides}
 use Rattle.master.proofs.asked.given_within.Statement.{statement}
 use Rattle.master.proofs.asked.given_within.Tie as tie
 
-all-within-requires : tie.Need-all-within-requires
-all-within-requires c κs = search needs
-
 returns : tie.Need-returns
 returns c = rw (no (c .before .all-within .ensures) (c .if1 .taken))
 
-all-within-requires-2 : tie.Need-all-within-requires-2
-all-within-requires-2 c κs = search needs
-
 returns-2 : tie.Need-returns-2
-returns-2 c = rw (yes (c .before .before .before .all-within .ensures) (c .before .before .if1 .left), no (c .before .all-within2 .ensures) (c .if2 .taken))
-
-all-within-requires-3 : tie.Need-all-within-requires-3
-all-within-requires-3 c κs = search needs
+returns-2 c =
+    let first = c .before .before in
+    rw (yes (first .before .all-within .ensures) (first .if1 .left), no (c .before .all-within2 .ensures) (c .if2 .taken))
 
 returns-3 : tie.Need-returns-3
 returns-3 c =
     let d = c .before in
-    last-decides (both (yes (d .before .before .before .all-within .ensures) (d .before .before .if1 .left)) (yes (d .before .all-within2 .ensures) (d .if2 .left)))
+    let first = d .before .before in
+    last-decides (both (yes (first .before .all-within .ensures) (first .if1 .left)) (yes (d .before .all-within2 .ensures) (d .if2 .left)))
     (c .all-within3 .ensures)
 
 pub given-within-spec : {M : Type 1} → statement M
 given-within-spec =
     tie.close
     (tie.spec
-    all-within-requires
+    (λ c κs. search needs)
     returns
-    all-within-requires-2
+    (λ c κs. search needs)
     returns-2
-    all-within-requires-3
+    (λ c κs. search needs)
     returns-3)

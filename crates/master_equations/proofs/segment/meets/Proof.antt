@@ -1,4 +1,4 @@
--- `master_equations::segment::meets` compares the sums with the numbers, one place after the other. The loop's invariant: those before r are the same. Assumes nothing.
+-- `master_equations::segment::meets` compares one place after the other. The loop's invariant: those before r are the same. Assumes nothing.
 use mathlib.Core.Path.{_≡_, refl, sym}
 use mathlib.Core.Bool.{true}
 use Prim.Native.Nat.{_-_, _≤_}
@@ -20,37 +20,13 @@ loop-holds : tie.Need-loop-holds Inv-loop μ-loop
 unfolding meetsAt every
 loop-holds c = (omega arith, refl)
 
-add-if1 : tie.Need-add-if1 Inv-loop μ-loop
-add-if1 c = search needs
-
-mul-if1 : tie.Need-mul-if1 Inv-loop μ-loop
-mul-if1 c = search needs
-
-element-copy-out-if1 : tie.Need-element-copy-out-if1 Inv-loop μ-loop
-element-copy-out-if1 c = search needs
-
-add-if1-2 : tie.Need-add-if1-2 Inv-loop μ-loop
-add-if1-2 c = search needs
-
-mul-if1-2 : tie.Need-mul-if1-2 Inv-loop μ-loop
-mul-if1-2 c = search needs
-
-shared-slice-copy-out-if1 : tie.Need-shared-slice-copy-out-if1 Inv-loop μ-loop
-shared-slice-copy-out-if1 c = search needs
-
 returns : tie.Need-returns Inv-loop μ-loop
-returns c = let w = c .before .before .before in sym (one-differs _ _ _ _ _ refl _ (w .loop-test .taken) (c .if1 .taken))
-
-add-r : tie.Need-add-r Inv-loop μ-loop
-add-r c = search needs
-
-loop-less : tie.Need-loop-less Inv-loop μ-loop
-loop-less c = search needs
+returns c = let w = c .before .before .before in sym (one-differs _ _ _ _ _ (w .loop-test .taken) (c .if1 .taken))
 
 loop-again : tie.Need-loop-again Inv-loop μ-loop
 loop-again c = (
   omega arith,
-  one-more _ _ _ _ _ refl (c .before .before .before .before .loop .inv .1) (c .before .before .if12 .given) (c .before .if13 .given) (c .if1 .left),
+  one-more _ _ _ _ (c .before .before .before .before .loop .inv .1) (c .before .before .if12 .given) (c .before .if13 .given) (c .if1 .left),
 )
 
 returns-2 : tie.Need-returns-2 Inv-loop μ-loop
@@ -63,14 +39,14 @@ meets-spec =
     Inv-loop
     μ-loop
     loop-holds
-    add-if1
-    mul-if1
-    element-copy-out-if1
-    add-if1-2
-    mul-if1-2
-    shared-slice-copy-out-if1
+    (λ c. search needs)
+    (λ c. search needs)
+    (λ c. search needs)
+    (λ c. search needs)
+    (λ c. search needs)
+    (λ c. search needs)
     returns
-    add-r
-    loop-less
+    (λ c. search needs)
+    (λ c. search needs)
     loop-again
     returns-2)

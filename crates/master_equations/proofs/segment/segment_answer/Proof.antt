@@ -7,49 +7,28 @@ use Rattle.rules.specs.Lists.{all}
 use Rattle.rules.specs.Master.{within, masterSays}
 use Rattle.questions.proofs.Tests.{no, yes}
 use Rattle.master_equations.specs.Segment.{segmentPart}
-use Rattle.master_equations.proofs.Parts.{as-lent, segment-inside, place-most, summable}
-use Rattle.master_equations.proofs.Says.{segment-out, segment-answers}
+use Rattle.master_equations.proofs.SegmentPart.{as-lent, segment-inside, place-most, summable}
+use Rattle.master_equations.proofs.SegmentSays.{segment-out, segment-answers}
 use Rattle.master_equations.proofs.segment.segment_answer.Statement.{statement}
 use Rattle.master_equations.proofs.segment.segment_answer.Tie as tie
 
+-- the entry, from behind the range's answer
+abbrev start : tie.After-all-within → tie.Start
+start c = c .before .before
+
+-- the answer is that of the segment's numbers
+fit : (c : tie.After-all-within) → let a = start c .args in c .all-within .result ≡ all within (segmentPart (a .m) (a .table .now) (a .i))
+fit c = let a = start c .args in c .all-within .ensures ∙ ap (all within) (as-lent (a .m) (a .table .now) (a .i))
+
 -- behind the first test every number of the segment is in range
-in-range : (c : tie.Else1) → let a = c .before .before .before .args in all within (segmentPart (a .m) (a .table .now) (a .i)) ≡ true
-in-range c = let a = c .before .before .before .args in yes (c .before .all-within .ensures ∙ ap (all within) (as-lent (a .m) (a .table .now) (a .i))) (c .if1 .left)
-
-mul-cells : tie.Need-mul-cells
-mul-cells c = search needs
-
-add-cells : tie.Need-add-cells
-add-cells c = search needs
-
-mul-from : tie.Need-mul-from
-mul-from c = record { fits = omega (arith, place-most (c .pre)) }
-
-add-all-within : tie.Need-add-all-within
-add-all-within c = record { fits = omega (arith, place-most (c .pre)) }
-
-mul-all-within : tie.Need-mul-all-within
-mul-all-within c = record { fits = omega (arith, place-most (c .pre)) }
-
-sub-all-within : tie.Need-sub-all-within
-sub-all-within c = search needs
-
-part-all-within-start : tie.Need-part-all-within-start
-part-all-within-start c = search needs
-
-part-all-within-end : tie.Need-part-all-within-end
-part-all-within-end c = omega (arith, segment-inside (c .pre))
-
-all-within-requires : tie.Need-all-within-requires
-all-within-requires c κs = search needs
+in-range : (c : tie.Else1) → let a = start (c .before) .args in all within (segmentPart (a .m) (a .table .now) (a .i)) ≡ true
+in-range c = yes (fit (c .before)) (c .if1 .left)
 
 returns : tie.Need-returns
-returns c =
-    let a = c .before .before .before .args in
-    sym (segment-out _ _ _ _ _ _ (no (c .before .all-within .ensures ∙ ap (all within) (as-lent (a .m) (a .table .now) (a .i))) (c .if1 .taken)))
+returns c = sym (segment-out _ _ _ _ _ _ (no (fit (c .before)) (c .if1 .taken)))
 
 segment-meets-requires : tie.Need-segment-meets-requires
-segment-meets-requires c κs = let pre = c .before .before .before .pre in (pre, summable pre (in-range c))
+segment-meets-requires c κs = let pre = start (c .before) .pre in (pre .0, pre .1, summable (pre .0) (pre .1) (in-range c))
 
 returns-2 : tie.Need-returns-2
 unfolding masterSays
@@ -63,15 +42,15 @@ pub segment-answer-spec : {M : Type 1} → statement M
 segment-answer-spec =
     tie.close
     (tie.spec
-    mul-cells
-    add-cells
-    mul-from
-    add-all-within
-    mul-all-within
-    sub-all-within
-    part-all-within-start
-    part-all-within-end
-    all-within-requires
+    (λ c. search needs)
+    (λ c. search needs)
+    (λ c. record { fits = omega (arith, place-most (c .pre .0) (c .pre .1)) })
+    (λ c. record { fits = omega (arith, place-most (c .pre .0) (c .pre .1)) })
+    (λ c. record { fits = omega (arith, place-most (c .pre .0) (c .pre .1)) })
+    (λ c. search needs)
+    (λ c. search needs)
+    (λ c. omega (arith, segment-inside (c .pre .0) (c .pre .1)))
+    (λ c κs. search needs)
     returns
     segment-meets-requires
     returns-2

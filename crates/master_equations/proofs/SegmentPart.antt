@@ -13,27 +13,33 @@ use Rattle.rules.specs.Lists.{all}
 use Rattle.rules.specs.Master.{within, coefficient}
 use Rattle.rules.proofs.Lists.{part-inside, all-at}
 use Rattle.rules.proofs.Lent.{part-size}
-use Rattle.master_equations.specs.Segment.{Summable, SegmentShaped, segmentPart}
+use Rattle.master_numbers.specs.Sums.{Summable}
+use Rattle.master_equations.specs.Segment.{Shaped, segmentPart}
 
 -- segment i's part of the table, as the code lends it
 pub as-lent : (m : ℕ) (table : List ℤ) (i : ℕ) → (let at = i * (2 * m + 2) in take (at + (2 * m + 2) - at) (drop at table)) ≡ segmentPart m table i
 unfolding segmentPart
 as-lent m table i = part-size (i * (2 * m + 2)) (2 * m + 2) table
 
-module _ {m : ℕ} {w end table : List ℤ} {i : ℕ} (s : SegmentShaped m w end table i) where
+module _ {m : ℕ} {w end table : List ℤ} (s : Shaped m w end table) {i : ℕ} (l : i < length w - 1) where
   pub segment-inside : i * (2 * m + 2) + (2 * m + 2) ≤ length table
-  segment-inside = rw (s .table-is) (part-inside (2 * m + 2) (omega (arith, s .between)))
+  segment-inside = rw (s .table-is) (part-inside (2 * m + 2) l)
+
+  most-segments : i ≤ 255
+  most-segments = let h = s .most in omega arith
 
   -- no table is so long that a place in it would not fit
   pub place-most : i * (2 * m + 2) + (2 * m + 2) ≤ 256 * 8
-  place-most = le-trans (part-inside (2 * m + 2) {n = 256} (omega (arith, s .most-i))) (mul-le-mul {n₂ = 256} {m₂ = 8} (omega arith) (omega (arith, s .most-m)))
+  place-most =
+      let few = s .most-m in
+      le-trans (part-inside (2 * m + 2) {n = 256} (omega (arith, most-segments))) (mul-le-mul {n₂ = 256} {m₂ = 8} (omega arith) (omega arith))
 
   -- of a segment in range the sums can be taken
   pub summable : all within (segmentPart m table i) ≡ true → Summable m table i
   unfolding within segmentPart
   summable e = record {
     most-m = s .most-m;
-    most-i = s .most-i;
+    most-i = most-segments;
     inside = segment-inside;
     coefficients = λ k b. subst (λ (z : ℤ). T (within z)) (cell k b) (all-at within (segmentPart m table i) (pos 0) tt (subst T (sym e) tt) k);
   }

@@ -1,26 +1,17 @@
--- `master_equations::sums::sums` meets its contract. The loop's invariant, `Shifted`, and its turn stand in proofs/Horner.antt. Assumes nothing.
+-- `master_numbers::sums::sums` meets its contract. The loop's invariant, `Shifted`, and its turn stand in proofs/Horner.antt. Assumes nothing.
 use mathlib.Core.Path.{sym}
 use Prim.Native.Nat.{_-_}
 use native.Mathlib.Omega.{arith}
 use borrow.Author.Needs.{needs}
-use Rattle.master_equations.proofs.Horner.{Shifted, unshifted, sum-fits, turned}
-use Rattle.master_equations.proofs.sums.sums.Statement.{statement}
-use Rattle.master_equations.proofs.sums.sums.Tie as tie
+use Rattle.master_numbers.proofs.Horner.{Shifted, unshifted, sum-fits, turned}
+use Rattle.master_numbers.proofs.sums.sums.Statement.{statement}
+use Rattle.master_numbers.proofs.sums.sums.Tie as tie
 
 abbrev Inv-loop : tie.InvT-loop
 Inv-loop m table i last b₀ r₀ b r = Shifted m table i r b
 
 abbrev μ-loop : tie.MeasureT-loop
 μ-loop m table i last b₀ r₀ b r = last - r
-
-mul-last : tie.Need-mul-last Inv-loop μ-loop
-mul-last c = search needs
-
-add-last : tie.Need-add-last Inv-loop μ-loop
-add-last c = search needs
-
-coefficients-requires : tie.Need-coefficients-requires Inv-loop μ-loop
-coefficients-requires c κs = search needs
 
 loop-holds : tie.Need-loop-holds Inv-loop μ-loop
 loop-holds c = unshifted _ _ _ _ (c .coefficients .ensures .0) (c .coefficients .ensures .1)
@@ -36,14 +27,11 @@ add-up-requires c κs =
     let few = s .pre .most-m in
     (omega (arith, more), omega (arith, l .inv .size), sum-fits (l .inv) (s .pre) more)
 
-add-r : tie.Need-add-r Inv-loop μ-loop
-add-r c = search needs
-
-loop-less : tie.Need-loop-less Inv-loop μ-loop
-loop-less c = search needs
-
 loop-again : tie.Need-loop-again Inv-loop μ-loop
-loop-again c = turned (c .before .before .before .before .loop .inv) (c .before .before .before .loop-test .taken) (c .before .add-up .kept .0) (c .before .add-up .ensures)
+loop-again c =
+    let added = c .before in
+    let w = added .before .before in
+    turned (w .before .loop .inv) (w .loop-test .taken) (added .add-up .kept .0) (added .add-up .ensures)
 
 returns : tie.Need-returns Inv-loop μ-loop
 returns c r h = c .before .loop .inv .done r (omega (arith, c .loop-test .left))
@@ -54,13 +42,13 @@ sums-spec =
     (tie.spec
     Inv-loop
     μ-loop
-    mul-last
-    add-last
-    coefficients-requires
+    (λ c. search needs)
+    (λ c. search needs)
+    (λ c κs. search needs)
     loop-holds
     slice-aggregate-add-up
     add-up-requires
-    add-r
-    loop-less
+    (λ c. search needs)
+    (λ c. search needs)
     loop-again
     returns)

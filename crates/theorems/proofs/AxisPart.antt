@@ -9,11 +9,12 @@ use lib.ListN.{length, take, drop}
 use lib.Seq.{take-all}
 use lib.Ieee.{Float}
 use Rattle.rules.specs.Tables.{mOf}
-use Rattle.rules.specs.Build.{BuildInput, validOrder, buildQuestions, inputQuestions, pivotQuestions, buildNumber, axisCoefficients, axisWaypoints, axisState, table}
+use Rattle.rules.specs.Build.{BuildInput, validOrder, buildQuestions, inputQuestions, pivotQuestions, buildNumber}
+use Rattle.rules.specs.Build.{axisCoefficients, axisWaypoints, axisState, table}
 use Rattle.rules.proofs.Lists.{joined-part}
 use Rattle.rules.proofs.Questions.{answerAt, said-yes}
 use Rattle.rules.proofs.Build.{length-axis, length-state, coefficient-count}
-use Rattle.theorems.specs.Axes.{axisPart}
+use Rattle.theorems.specs.Independent.{axisPart}
 
 -- what the rules compute for an axis
 unfoldable pub coefficientsOf : BuildInput → ℕ → List Float

@@ -11,14 +11,14 @@ use Rattle.rules.specs.Lists.{listed}
 use Rattle.rules.specs.Tables.{mOf}
 use Rattle.rules.specs.Build.{BuildInput, acceptedRecord, divided, boundaryNumber, axisWaypoints, axisState}
 use Rattle.rules.proofs.Filling.{listed-ext}
-use Rattle.theorems.specs.Axes.{marked, givenNumber, Alike, AxesAreIndependent}
-use Rattle.theorems.proofs.Parts.{coefficientsOf, part-is}
+use Rattle.theorems.specs.Independent.{marked, givenNumber, Alike, AxesAreIndependent}
+use Rattle.theorems.proofs.AxisPart.{coefficientsOf, part-is}
 
 -- a number of a state as the build uses it, by the state's mark and the number as given
-abbrev used : Float → Bool → Float → ℕ → Float
+abbrev pub used : Float → Bool → Float → ℕ → Float
 used inv mark x r = cond mark (divided (r + 1) x inv) x
 
-boundary-is : (axes : ℕ) (inv : Float) (state : BoundaryState) (numbers : List Float) (axis r : ℕ)
+pub boundary-is : (axes : ℕ) (inv : Float) (state : BoundaryState) (numbers : List Float) (axis r : ℕ)
     → boundaryNumber axes inv state numbers axis r ≡ used inv (marked state) (givenNumber axes state numbers axis r) r
 unfolding boundaryNumber marked givenNumber
 boundary-is axes inv None numbers axis r = refl

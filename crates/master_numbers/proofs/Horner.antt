@@ -1,6 +1,6 @@
--- Horner's scheme at 1. A segment's coefficients are added up from the highest down, to place 0, then to place 1 and so on. Each number on the way is a sum of
--- binomials times coefficients, `passed`; at the end they are the sums of the equations, `passed-all`, and none is so large that it leaves an i64: `passed-most`.
--- Assumes nothing.
+-- Horner's scheme at 1. A segment's coefficients are added up from the highest down, to place 0, then to place 1 and so on. Each number on the
+-- way is a sum of binomials times coefficients, `passed`; at the end they are the sums of the equations, `passed-all`. None is so large that it
+-- leaves an i64: `passed-most`. Assumes nothing.
 use mathlib.Core.Path.{_≡_, refl, sym, ap, ap₂, _∙_, subst}
 use mathlib.Core.List.{List}
 use mathlib.Core.Logic.{_⊎_, inl, inr}
@@ -16,7 +16,7 @@ use Rattle.rules.specs.Lists.{every}
 use Rattle.rules.specs.Master.{at, coefficient, atEnd, binomial, sumℤ, within}
 use Rattle.rules.proofs.Lists.{below-suc, every-at}
 use Rattle.theorems.proofs.Sums.{sum-same, sum-add, sum-split, sum-first, sum-zero}
-use Rattle.master_equations.specs.Segment.{Summable, AddedUp, sumFrom}
+use Rattle.master_numbers.specs.Sums.{Summable, AddedUp, sumFrom}
 
 -- ---- binomials
 
@@ -153,7 +153,8 @@ sum-more b last k h =
     ap (λ (n : ℕ). sumℤ n (λ i. at b (k + i))) {x = suc last - k} {y = suc (last - k)} (omega arith)
     ∙ sum-first (last - k) _
     ∙ ap₂ _+ℤ_ (ap (at b) (omega arith))
-    (sum-same (last - k) _ _ (λ i l. ap (at b) (omega arith)) ∙ ap (λ (n : ℕ). sumℤ n (λ i. at b (suc k + i))) {x = last - k} {y = suc last - suc k} (omega arith))
+    (sum-same (last - k) _ _ (λ i l. ap (at b) (omega arith))
+    ∙ ap (λ (n : ℕ). sumℤ n (λ i. at b (suc k + i))) {x = last - k} {y = suc last - suc k} (omega arith))
 
 pub none-added : (first last : ℕ) (b : List ℤ) → first ≤ last → Adding first last b last b
 none-added first last b l = record {
@@ -203,7 +204,8 @@ pub record Shifted (m : ℕ) (table : List ℤ) (i r : ℕ) (b : List ℤ) : Typ
   pub rest : (k : ℕ) → r ≤ k → k ≤ 2 * m + 1 → at b k ≡ passed (coefficient m table i) (2 * m + 1) r k
 
 -- the coefficients as they are
-pub unshifted : (m : ℕ) (table : List ℤ) (i : ℕ) (b : List ℤ) → length b ≡ 8 → ((k : ℕ) → k < 2 * m + 2 → at b k ≡ coefficient m table i k) → Shifted m table i 0 b
+pub unshifted : (m : ℕ) (table : List ℤ) (i : ℕ) (b : List ℤ) → length b ≡ 8
+    → ((k : ℕ) → k < 2 * m + 2 → at b k ≡ coefficient m table i k) → Shifted m table i 0 b
 unfolding passed
 unshifted m table i b l e = record { most = omega arith; size = l; done = λ j h. absurd (not-suc-le-zero h); rest = λ k l h. e k (omega arith) }
 

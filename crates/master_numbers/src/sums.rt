@@ -6,7 +6,7 @@ ghost use Prim.Native.Nat.{ℕ, _+_, _*_, _^_, _<_, _≤_};
 ghost use lib.IntN.{natAbs};
 ghost use lib.ListN.{length};
 ghost use Rattle.rules.specs.Master.{at, coefficient, atEnd};
-ghost use Rattle.master_equations.specs.Segment.{Summable, AddedUp, sumFrom};
+ghost use Rattle.master_numbers.specs.Sums.{Summable, AddedUp, sumFrom};
 
 // The coefficients of segment i, in an array with room for order 7.
 fn coefficients(m: usize, table: &[i64], i: usize) -> [i64; 8]

@@ -9,9 +9,9 @@ use Rattle.rules.specs.Master.{within}
 use Rattle.rules.specs.Lists.{all}
 use Rattle.rules.proofs.Lists.{all-none-left, all-next}
 use Rattle.questions.proofs.Tests.{no, yes}
-use Rattle.master_equations.proofs.Signed.{as-read}
-use Rattle.master_equations.proofs.range.all_within.Statement.{statement}
-use Rattle.master_equations.proofs.range.all_within.Tie as tie
+use Rattle.master_numbers.proofs.Signed.{as-read}
+use Rattle.master_numbers.proofs.range.all_within.Statement.{statement}
+use Rattle.master_numbers.proofs.range.all_within.Tie as tie
 
 abbrev Inv-loop : tie.InvT-loop
 Inv-loop numbers i₀ i = (i ≤ length numbers) × (all within numbers ≡ all within (drop i numbers))
@@ -19,37 +19,23 @@ Inv-loop numbers i₀ i = (i ≤ length numbers) × (all within numbers ≡ all 
 abbrev μ-loop : tie.MeasureT-loop
 μ-loop numbers i₀ i = length numbers - i
 
-loop-holds : tie.Need-loop-holds Inv-loop μ-loop
-loop-holds c = (omega arith, refl)
-
-mul-is-within : tie.Need-mul-is-within Inv-loop μ-loop
-mul-is-within c = search needs
-
-shared-slice-copy-out-is-within : tie.Need-shared-slice-copy-out-is-within Inv-loop μ-loop
-shared-slice-copy-out-is-within c = search needs
-
-is-within-requires : tie.Need-is-within-requires Inv-loop μ-loop
-is-within-requires c κs = search needs
+-- a turn of the loop, from behind the answer
+abbrev turn : tie.After-is-within Inv-loop μ-loop → tie.In-loop Inv-loop μ-loop
+turn c = c .before .before
 
 -- the number that was asked of is the one at i: what is read of it is what the list has there
-answer : (c : tie.After-is-within Inv-loop μ-loop) → let p = c .before .before .before in
+answer : (c : tie.After-is-within Inv-loop μ-loop) → let p = turn c .before in
     c .is-within .result ≡ within (getD (p .before .args .numbers .now) (p .loop .i) (pos 0))
 answer c = c .is-within .ensures ∙ ap within (as-read _ (c .before .is-within-arg .given))
 
 returns : tie.Need-returns Inv-loop μ-loop
 returns c =
-    let w = c .before .before .before in
+    let w = turn (c .before) in
     sym (w .before .loop .inv .1 ∙ all-next within _ _ _ (w .loop-test .taken) (no (answer (c .before)) (c .if1 .taken)))
-
-add-i : tie.Need-add-i Inv-loop μ-loop
-add-i c = omega arith
-
-loop-less : tie.Need-loop-less Inv-loop μ-loop
-loop-less c = omega arith
 
 loop-again : tie.Need-loop-again Inv-loop μ-loop
 loop-again c =
-    let w = c .before .before .before in (
+    let w = turn (c .before) in (
       omega arith,
       w .before .loop .inv .1 ∙ all-next within _ _ _ (w .loop-test .taken) (yes (answer (c .before)) (c .if1 .left)),
     )
@@ -63,12 +49,12 @@ all-within-spec =
     (tie.spec
     Inv-loop
     μ-loop
-    loop-holds
-    mul-is-within
-    shared-slice-copy-out-is-within
-    is-within-requires
+    (λ c. (omega arith, refl))
+    (λ c. search needs)
+    (λ c. search needs)
+    (λ c κs. search needs)
     returns
-    add-i
-    loop-less
+    (λ c. omega arith)
+    (λ c. omega arith)
     loop-again
     returns-2)

@@ -10,8 +10,8 @@ use mir.Syntax.{w64}
 use mir.ValLaws.{toZ-ofZ}
 use borrow.Author.Tests.{ltb-true, ltb-false, le-leb, lt-leb}
 use Rattle.rules.specs.Master.{within}
-use Rattle.master_equations.proofs.range.is_within.Statement.{statement}
-use Rattle.master_equations.proofs.range.is_within.Tie as tie
+use Rattle.master_numbers.proofs.range.is_within.Statement.{statement}
+use Rattle.master_numbers.proofs.range.is_within.Tie as tie
 
 too-low : (z : ℤ) → ltZ z (negsuc 1099511627775) ≡ true → false ≡ within z
 unfolding within
