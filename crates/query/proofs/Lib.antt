@@ -1,7 +1,2 @@
-pub mod Levels
-pub mod Steps
-pub mod Loop
-pub mod Rest
-pub mod Scaled
-pub mod Axes
+pub mod AxesLoop
 pub mod Answered

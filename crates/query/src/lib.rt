@@ -1,21 +1,18 @@
 // The query, module 6 of document 01: where a path is at s, and its derivatives there. The entry point is
-// `eval_at`; the lookup and the evaluation of one segment stand in files of their own.
+// `eval_at`; the lookup and the evaluation of one segment are crates of their own.
 ghost use mathlib.Core.Path.{_≡_};
 ghost use mathlib.Core.Bool.{true, cond};
 ghost use Prim.Native.Nat.{_<_};
 ghost use lib.ListN.{length, set};
 ghost use Rattle.rules.specs.Query.{writes, buffers, lengthsOf, Queried};
 ghost use Rattle.questions.specs.Input.{queryOf};
-ghost use Rattle.query.specs.Axes.{Evaluable, Evaluated};
-use lookup::segment_tau;
-use poly::eval_poly;
+ghost use Rattle.query.specs.Evaluation.{Evaluable, Evaluated};
+use query_lookup::segment_tau;
+use query_poly::eval_poly;
 use rules::Lookup;
 use rules::PathParam;
 use rules::PathRecord;
 use rules::SegmentUnits;
-
-mod lookup;
-mod poly;
 
 // Derivative k of an axis goes to its buffer, where the level writes that.
 fn put(level: u8, k: u8, cells: &mut [f64], axis: usize, x: f64)

@@ -10,11 +10,13 @@ use borrow.Author.Tests.{le-leb}
 use lib.Ieee.{Float}
 use Rattle.rules.specs.declared.SegmentUnits.{SegmentUnits}
 use Rattle.rules.specs.declared.Lookup.the-variants.{At}
-use Rattle.rules.specs.Query.{QueryInput, Lengths, Buffers, buffers, lengthsOf, writes, lookup, LookupSays, lookupSays, queryNumber, derivativeAfter, Queried}
-use Rattle.query.specs.Axes.{derivativeAt}
+use Rattle.rules.specs.Query.{QueryInput, Lengths, Buffers, buffers, lengthsOf, writes, lookup, LookupSays, lookupSays}
+use Rattle.rules.specs.Query.{queryNumber, derivativeAfter, Queried}
+use Rattle.query.specs.Evaluation.{derivativeAt}
 use Rattle.questions.specs.Input.{queryOf}
 use Rattle.query.proofs.Answered as Answered
-use Rattle.query.proofs.Answered.{range, in-range, out-of-range, segment-known, no-number, range-number, yes-number, refused, served, segments-known, evaluable, derivative-at}
+use Rattle.query_lookup.proofs.Answer.{range, in-range, out-of-range, segment-known}
+use Rattle.query.proofs.Answered.{no-number, range-number, yes-number, refused, served, findable, evaluable, derivative-at}
 use Rattle.query.proofs.eval_at.Statement.{statement}
 use Rattle.query.proofs.eval_at.Tie as tie
 
@@ -72,7 +74,7 @@ returns c =
     as-it-was p (c .if1 .taken) (no-number (given p) (lengths p) (λ e. c .if1 .taken (answer p ∙ e)) ∙ sym (answer p))
 
 segment-tau-requires : tie.Need-segment-tau-requires
-segment-tau-requires c κs = segments-known (given (c .before)) (lengths (c .before)) (said-yes c)
+segment-tau-requires c κs = findable (given (c .before)) (lengths (c .before)) (said-yes c)
 
 enum-told : tie.Need-enum-told
 enum-told c = search needs
@@ -87,8 +89,8 @@ eval-axes-requires c κs =
     let p = asked-at f in
     let i = given p in
     let e = said-yes (f .before .before .before) in
-    let (some, few, range) = segments-known i (lengths p) e in
-    evaluable i (lengths p) e (segment f) (subst (λ (found : ℕ). found < i .path .segments) (ap (λ (says : LookupSays). says .segment) (found f)) (segment-known (i .path) (i .s) some few range (inside f)))
+    let l = segment-known (i .path) (i .s) (findable i (lengths p) e) (inside f) in
+    evaluable i (lengths p) e (segment f) (subst (λ (n : ℕ). n < i .path .segments) (ap (λ (says : LookupSays). says .segment) (found f)) l)
 
 returns-2 : tie.Need-returns-2
 unfolding lookupSays

@@ -12,12 +12,12 @@ use Rattle.rules.specs.Floats.{_⊗_}
 use Rattle.rules.specs.Query.{writes, evalPoly, perUnitOfS, segmentOf}
 use Rattle.rules.proofs.Fills as Fills
 use Rattle.rules.proofs.Fills.{Filled}
-use Rattle.query.specs.declared.poly.Derivatives.{Derivatives}
-use Rattle.query.specs.Level.{asked}
-use Rattle.query.specs.Axes.{derivativeAt}
-use Rattle.query.proofs.Axes as Axes
+use Rattle.query_poly.specs.declared.Derivatives.{Derivatives}
+use Rattle.query_poly.specs.Level.{asked}
+use Rattle.query.specs.Evaluation.{derivativeAt}
+use Rattle.query.proofs.AxesLoop as Axes
 use Rattle.rules.proofs.Lent.{part-size, part-length}
-use Rattle.query.proofs.Axes.{Written, cell, order-bound, segments-bound, table-bound, segment-inside, part-inside-all, asked-for}
+use Rattle.query.proofs.AxesLoop.{Written, cell, order-bound, segments-bound, table-bound, segment-inside, part-inside-all, asked-for}
 use Rattle.query.proofs.eval_axes.Statement.{statement}
 use Rattle.query.proofs.eval_axes.Tie as tie
 

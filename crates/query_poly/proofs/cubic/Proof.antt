@@ -1,0 +1,109 @@
+-- `query_poly::cubic` meets its contract: its steps are those of each derivative. Assumes nothing.
+use mathlib.Core.Path.{_≡_, _∙_}
+use Prim.Native.Nat.{ℕ}
+use borrow.Author.Needs.{needs}
+use lib.Ieee.{Float, ofBits, ofInt}
+use Rattle.rules.specs.Lists.{listed}
+use Rattle.rules.specs.Query.{derivativeFactor, fusedDerivative}
+use Rattle.query_poly.proofs.Levels.{is-3, asked-0, asked-2, asked-3}
+use Rattle.query_poly.proofs.FusedSteps.{last, step, derivative-is}
+use Rattle.query_poly.proofs.cubic.Statement.{statement}
+use Rattle.query_poly.proofs.cubic.Tie as tie
+
+abbrev derivative : tie.Start → ℕ → Float
+derivative s = fusedDerivative 3 (s .args .a .now) (s .args .t)
+
+-- where the position and the first two derivatives are found, past the test for level 0
+module _ (c : tie.After-mul-add6) where
+  abbrev past-0 : tie.Else1
+  past-0 = c .before .before .before .before .before .before .before .before .before .before
+
+  abbrev start : tie.Start
+  start = past-0 .before .before
+
+  position : c .mul-add6 .result ≡ derivative start 0
+  unfolding listed derivativeFactor
+  position = derivative-is _ 0 (start .pre .1) (step (c .mul-add6 .ensures) (step (c .before .before .mul-add4 .ensures) (step (c .before .before .before .before .before .mul-add .ensures) last)))
+
+  first : c .before .mul-add5 .result ≡ derivative start 1
+  unfolding ofBits ofInt listed derivativeFactor
+  first = derivative-is _ 1 (start .pre .1) (step (c .before .mul-add5 .ensures) (step (c .before .before .before .before .mul-add2 .ensures) last))
+
+  second : c .before .before .before .mul-add3 .result ≡ derivative start 2
+  unfolding ofBits ofInt listed derivativeFactor
+  second = derivative-is _ 2 (start .pre .1) (step (c .before .before .before .mul-add3 .ensures) last)
+
+cubic-position-requires : tie.Need-cubic-position-requires
+cubic-position-requires c κs = search needs
+
+position-requires : tie.Need-position-requires
+position-requires c κs = search needs
+
+returns : tie.Need-returns
+returns c = c .position .ensures ∙ asked-0 (derivative (c .before .before .before .before)) (c .before .cubic-position .ensures) (c .before .before .if1 .taken)
+
+shared-slice-read-a0 : tie.Need-shared-slice-read-a0
+shared-slice-read-a0 c = search needs
+
+shared-slice-read-a1 : tie.Need-shared-slice-read-a1
+shared-slice-read-a1 c = search needs
+
+shared-slice-read-a2 : tie.Need-shared-slice-read-a2
+shared-slice-read-a2 c = search needs
+
+shared-slice-read-a3 : tie.Need-shared-slice-read-a3
+shared-slice-read-a3 c = search needs
+
+mul-add-requires : tie.Need-mul-add-requires
+mul-add-requires c κs = search needs
+
+mul-add-requires-2 : tie.Need-mul-add-requires-2
+mul-add-requires-2 c κs = search needs
+
+mul-add-requires-3 : tie.Need-mul-add-requires-3
+mul-add-requires-3 c κs = search needs
+
+mul-add-requires-4 : tie.Need-mul-add-requires-4
+mul-add-requires-4 c κs = search needs
+
+mul-add-requires-5 : tie.Need-mul-add-requires-5
+mul-add-requires-5 c κs = search needs
+
+mul-add-requires-6 : tie.Need-mul-add-requires-6
+mul-add-requires-6 c κs = search needs
+
+up-to-second-requires : tie.Need-up-to-second-requires
+up-to-second-requires c κs = search needs
+
+returns-2 : tie.Need-returns-2
+returns-2 c =
+    let at = c .before .before in
+    c .up-to-second .ensures ∙ asked-2 (derivative (start at)) (position at) (first at) (second at) (c .before .if2 .taken)
+
+returns-3 : tie.Need-returns-3
+unfolding ofBits ofInt listed derivativeFactor
+returns-3 c =
+    let at = c .before in
+    let s = start at in
+    asked-3 (derivative s) (position at) (first at) (second at) (derivative-is _ 3 (s .pre .1) last) (is-3 _ (s .pre .0) (past-0 at .if1 .left) (c .if2 .left))
+
+pub cubic-spec : {M : Type 1} → statement M
+cubic-spec =
+    tie.close
+    (tie.spec
+    cubic-position-requires
+    position-requires
+    returns
+    shared-slice-read-a0
+    shared-slice-read-a1
+    shared-slice-read-a2
+    shared-slice-read-a3
+    mul-add-requires
+    mul-add-requires-2
+    mul-add-requires-3
+    mul-add-requires-4
+    mul-add-requires-5
+    mul-add-requires-6
+    up-to-second-requires
+    returns-2
+    returns-3)
