@@ -1,13 +1,12 @@
 -- In the common case the result is the sum of the magnitudes (`common-shifted`), and so is the definition (`by-bits`). Assumes nothing.
 use mathlib.Core.Path.{sym, _∙_}
-use Prim.Native.Nat.{_-_, _≤_}
 use native.Mathlib.Omega.{arith}
 use native.Mathlib.Nat.{lt-of-lt-of-le}
 use lib.Dec.{lit≤}
 use lib.Ieee.{binary64, toBits}
 use borrow.Author.Needs.{needs}
-use Rattle.fused.proofs.Operands.{held, by-bits}
-use Rattle.fused.proofs.Window.{is-common, shift-room, common-fields, common-nonzero, common-shifted}
+use Rattle.fused_general.proofs.Operands.{held, by-bits}
+use Rattle.fused.proofs.Common.{is-common, shift-room, common-fields, common-nonzero, common-shifted}
 use Rattle.fused.proofs.mul_add.Statement.{statement}
 use Rattle.fused.proofs.mul_add.Tie as tie
 

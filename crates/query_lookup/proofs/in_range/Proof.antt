@@ -3,12 +3,11 @@ use mathlib.Core.Path.{_≡_, refl, sym, ap, _∙_}
 use mathlib.Core.Bool.{Bool, not, _&&_}
 use lib.Ieee.{Float, nan, inf, fin, le, isNan}
 use borrow.Author.Needs.{needs}
-use Rattle.fused.proofs.Values.{number-test}
 use Rattle.rules.specs.declared.PathParam.{PathParam}
 use Rattle.rules.specs.declared.OutOfRangeMode.{OutOfRangeMode}
 use Rattle.rules.specs.declared.OutOfRangeMode.the-variants.{Error}
 use Rattle.rules.specs.Query.{inRange}
-use Rattle.law_rounding.proofs.NotNan.{no-more-than-nan}
+use Rattle.law_rounding.proofs.NotNan.{no-more-than-nan, number-test}
 use Rattle.query_lookup.proofs.in_range.Statement.{statement}
 use Rattle.query_lookup.proofs.in_range.Tie as tie
 

@@ -1,0 +1,50 @@
+-- Assumes nothing.
+use mathlib.Core.Path.{sym, subst}
+use Prim.Native.Nat.{ℕ, _+_, _*_, _^_}
+use native.Mathlib.Nat.{mul-le-mul-right, le-of-lt, zero-add}
+use mathlib.Core.Bool.{Bool, true, false, not}
+use lib.Dec.{T}
+use lib.Ieee.{binary64, ofBits, nanBits}
+use lib.Ieee.Exact.{HasValue}
+use borrow.Author.Needs.{needs}
+use Rattle.law_rounding.proofs.Pattern.{no-nan}
+use Rattle.fused_near.proofs.Convert.{power-negative, power-positive}
+use Rattle.fused_near.proofs.power.Statement.{statement}
+use Rattle.fused_near.proofs.power.Tie as tie
+
+mul-result : tie.Need-mul-result
+mul-result c = search needs
+
+add-result : tie.Need-add-result
+add-result c = search needs
+
+float-from-bits-result : tie.Need-float-from-bits-result
+float-from-bits-result c = no-nan binary64 true (c .before .args .field * 2 ^ 52) (mul-le-mul-right (2 ^ 52) (le-of-lt (c .before .pre .1)))
+
+mul-result-2 : tie.Need-mul-result-2
+mul-result-2 c = search needs
+
+float-from-bits-result-2 : tie.Need-float-from-bits-result-2
+float-from-bits-result-2 c = subst (λ (b : ℕ). T (not (nanBits binary64 b))) (zero-add (c .before .args .field * 2 ^ 52)) (no-nan binary64 false (c .before .args .field * 2 ^ 52) (mul-le-mul-right (2 ^ 52) (le-of-lt (c .before .pre .1))))
+
+returns : tie.Need-returns
+returns c =
+    let k = c .before .args .field in
+    subst (λ (s : Bool). HasValue (ofBits binary64 (2 ^ 63 + k * 2 ^ 52)) s (2 ^ (k + 51)) (2 ^ 1074)) (sym (c .if1 .taken)) (power-negative k (c .before .pre .0) (c .before .pre .1))
+
+returns-2 : tie.Need-returns-2
+returns-2 c =
+    let k = c .before .args .field in
+    subst (λ (s : Bool). HasValue (ofBits binary64 (k * 2 ^ 52)) s (2 ^ (k + 51)) (2 ^ 1074)) (sym (c .if1 .left)) (power-positive k (c .before .pre .0) (c .before .pre .1))
+
+pub power-spec : {M : Type 1} → statement M
+power-spec =
+    tie.close
+    (tie.spec
+    mul-result
+    add-result
+    float-from-bits-result
+    mul-result-2
+    float-from-bits-result-2
+    returns
+    returns-2)

@@ -1,0 +1,39 @@
+-- Assumes nothing.
+use mathlib.Core.Path.{_∙_}
+use borrow.Author.Needs.{needs}
+use Rattle.fused_pack.proofs.Round.{rounded-low, rounded-high}
+use Rattle.fused_pack.proofs.rounded.Statement.{statement}
+use Rattle.fused_pack.proofs.rounded.Tie as tie
+
+sub-shifted-word : tie.Need-sub-shifted-word
+sub-shifted-word c = search needs
+
+shifted-word-requires : tie.Need-shifted-word-requires
+shifted-word-requires c κs = search needs
+
+pattern-requires : tie.Need-pattern-requires
+pattern-requires c κs = search needs
+
+pattern-requires-2 : tie.Need-pattern-requires-2
+pattern-requires-2 c κs = search needs
+
+returns : tie.Need-returns
+returns c v x p s =
+    let a = c .before .before .before .args in
+    c .pattern .ensures ∙ rounded-low (a .negative) (a .w) (a .g) (c .before .shifted-word .result) v x (c .before .before .if1 .taken) (c .before .shifted-word .ok) (c .before .shifted-word .ensures) p s
+
+returns-2 : tie.Need-returns-2
+returns-2 c v x p s =
+    let a = c .before .before .args in
+    c .pattern2 .ensures ∙ rounded-high (a .negative) (a .w) (a .g) v x (c .before .if1 .left) (c .before .before .pre .0) (c .before .before .fits .w .fits) p s
+
+pub rounded-spec : {M : Type 1} → statement M
+rounded-spec =
+    tie.close
+    (tie.spec
+    sub-shifted-word
+    shifted-word-requires
+    pattern-requires
+    pattern-requires-2
+    returns
+    returns-2)
