@@ -2,7 +2,8 @@
 use mathlib.Core.Path.{_≡_, refl, sym, ap, _∙_, subst}
 use mathlib.Core.Logic.{inl, inr}
 use Prim.Native.Nat.{ℕ, zero, suc, _+_, _-_, _*_, _%_, _^_, _≤_, _<_}
-use native.Mathlib.Nat.{le-of-lt, le-trans, lt-of-lt-of-le, lt-of-le-of-lt, mul-assoc, mul-comm, mul-lt-mul-of-pos-right, zero-mul, zero-add, le-add-right, mul-le-mul-left}
+use native.Mathlib.Nat.{le-of-lt, le-trans, lt-of-lt-of-le, lt-of-le-of-lt, mul-assoc, mul-comm, mul-lt-mul-of-pos-right, zero-mul, zero-add, le-add-right}
+use native.Mathlib.Nat.{mul-le-mul-left}
 use native.Mathlib.Omega.{arith}
 use mathlib.Core.Bool.{Bool, true, false, not}
 use lib.Dec.{T, lit≤, ltb, ltb→lt, nltb→le}
@@ -84,7 +85,8 @@ module _ (B S J d e : ℕ) (pb : Placed B) (ps : Placed S) (t : Sticky (2 ^ d) S
   not-short : (h l y : ℕ) → l < 2 ^ 64 → h * 2 ^ 64 + l ≡ y → 2 ^ 64 ≤ y → h ≡ 0 → ⊥
   not-short h l y a b c z = omega arith
 
-  pub like : (s : Bool) (h l : ℕ) (r : Float) → l < 2 ^ 64 → h * 2 ^ 64 + l ≡ B + J → Rounds s h l (e + d) r → r ≡ Ieee.sum binary64 s (B * 2 ^ (e + d)) s (S * 2 ^ e) (2 ^ 2272)
+  pub like : (s : Bool) (h l : ℕ) (r : Float) → l < 2 ^ 64 → h * 2 ^ 64 + l ≡ B + J → Rounds s h l (e + d) r
+      → r ≡ Ieee.sum binary64 s (B * 2 ^ (e + d)) s (S * 2 ^ e) (2 ^ 2272)
   like s h l r a y k =
       k (2 ^ d) (B * 2 ^ d + S) (pow-pos d) (subst (Sticky (2 ^ d) (B * 2 ^ d + S)) (sym y) (sticky-add (2 ^ d) B S J (even B (pb .2)) t))
       (λ z. absurd (not-short h l (B + J) a y (le-trans (le-trans (lit≤ tt) (pb .0)) (le-add-right B J)) z))
@@ -96,7 +98,8 @@ module _ (B S J d e : ℕ) (pb : Placed B) (ps : Placed S) (t : Sticky (2 ^ d) S
   one-word : (h l y x m : ℕ) → h * 2 ^ 64 + l ≡ y → x ≡ y * m → h ≡ 0 → x ≡ l * m
   one-word h l y x m a b z = b ∙ ap (λ (n : ℕ). n * m) (sym a ∙ ap (λ (n : ℕ). n * 2 ^ 64 + l) z ∙ ap (λ (n : ℕ). n + l) (zero-mul (2 ^ 64)) ∙ zero-add l)
 
-  pub more : (s : Bool) (h l : ℕ) (r : Float) → l < 2 ^ 64 → J < B → h * 2 ^ 64 + l ≡ B - J → Rounds s h l (e + d) r → r ≡ Ieee.sum binary64 s (B * 2 ^ (e + d)) (not s) (S * 2 ^ e) (2 ^ 2272)
+  pub more : (s : Bool) (h l : ℕ) (r : Float) → l < 2 ^ 64 → J < B → h * 2 ^ 64 + l ≡ B - J → Rounds s h l (e + d) r
+      → r ≡ Ieee.sum binary64 s (B * 2 ^ (e + d)) (not s) (S * 2 ^ e) (2 ^ 2272)
   more s h l r a j y k =
       k (2 ^ d) (B * 2 ^ d - S) (pow-pos d) (subst (Sticky (2 ^ d) (B * 2 ^ d - S)) (sym y) (sticky-from (2 ^ d) B S J (even B (pb .2)) (le-of-lt j) t))
       (λ z. one-word h l (B - J) (B * 2 ^ d - S) (2 ^ d) y (ap (λ (n : ℕ). B * 2 ^ d - n) (exact (near h l B J a y z)) ∙ sym (sub-mul B J (2 ^ d))) z)
@@ -107,13 +110,15 @@ module _ (B S J d e : ℕ) (pb : Placed B) (ps : Placed S) (t : Sticky (2 ^ d) S
       near : (h l B J : ℕ) → l < 2 ^ 64 → h * 2 ^ 64 + l ≡ B - J → h ≡ 0 → B < J + 2 ^ 65
       near h l B J a y z = omega arith
 
-  pub fewer : (s : Bool) (h l : ℕ) (r : Float) → B < J → h * 2 ^ 64 + l ≡ J - B → Rounds (not s) h l (e + d) r → r ≡ Ieee.sum binary64 s (B * 2 ^ (e + d)) (not s) (S * 2 ^ e) (2 ^ 2272)
+  pub fewer : (s : Bool) (h l : ℕ) (r : Float) → B < J → h * 2 ^ 64 + l ≡ J - B → Rounds (not s) h l (e + d) r
+      → r ≡ Ieee.sum binary64 s (B * 2 ^ (e + d)) (not s) (S * 2 ^ e) (2 ^ 2272)
   fewer s h l r j y k =
       let x : S ≡ J * 2 ^ d = exact (near B J j) in
       k (2 ^ d) (S - B * 2 ^ d) (pow-pos d) (subst (Sticky (2 ^ d) (S - B * 2 ^ d)) (sym y) (sticky-less (2 ^ d) B S J (even B (pb .2)) (le-of-lt j) t))
       (λ z. one-word h l (J - B) (S - B * 2 ^ d) (2 ^ d) y (ap (λ (n : ℕ). n - B * 2 ^ d) x ∙ sym (sub-mul J B (2 ^ d))) z)
       ∙ scaled (not s) (S - B * 2 ^ d)
-      ∙ sym (less-times binary64 s (B * 2 ^ d) S (2 ^ e) (2 ^ 2272) (pow-pos e) (subst (λ (n : ℕ). B * 2 ^ d < n) (sym x) (mul-lt-mul-of-pos-right j (pow-pos d))))
+      ∙ sym
+      (less-times binary64 s (B * 2 ^ d) S (2 ^ e) (2 ^ 2272) (pow-pos e) (subst (λ (n : ℕ). B * 2 ^ d < n) (sym x) (mul-lt-mul-of-pos-right j (pow-pos d))))
       ∙ big s (not s)
     where
       near : (B J : ℕ) → B < J → B < J + 2 ^ 65
@@ -121,7 +126,9 @@ module _ (B S J d e : ℕ) (pb : Placed B) (ps : Placed S) (t : Sticky (2 ^ d) S
 
   pub none : (s : Bool) → J ≡ B → fin false 0 (pos 0) ≡ Ieee.sum binary64 s (B * 2 ^ (e + d)) (not s) (S * 2 ^ e) (2 ^ 2272)
   none s j =
-      sym (ap (λ (n : ℕ). Ieee.sum binary64 s (B * 2 ^ (e + d)) (not s) n (2 ^ 2272)) (ap (λ (n : ℕ). n * 2 ^ e) (exact (near B J j) ∙ ap (λ (n : ℕ). n * 2 ^ d) j) ∙ joined)
+      sym
+      (ap (λ (n : ℕ). Ieee.sum binary64 s (B * 2 ^ (e + d)) (not s) n (2 ^ 2272))
+      (ap (λ (n : ℕ). n * 2 ^ e) (exact (near B J j) ∙ ap (λ (n : ℕ). n * 2 ^ d) j) ∙ joined)
       ∙ sum-none binary64 s (B * 2 ^ (e + d)) (2 ^ 2272)
       ∙ round-zero binary64 false (2 ^ 2272))
     where

@@ -2,7 +2,9 @@
 use mathlib.Core.Path.{_≡_, sym, ap, ap₂, _∙_, subst}
 use mathlib.Core.Logic.{inl, inr}
 use Prim.Native.Nat.{ℕ, _+_, _-_, _*_, _/_, _%_, _^_, _≤_, _<_}
-use native.Mathlib.Nat.{zero-mul, one-mul, zero-add, add-mul, mul-add, mul-assoc, mod-eq-of-lt, mod-eq-sub-mod, div-add-mod', mul-lt-mul-of-pos-right, lt-of-le-of-lt, lt-of-lt-of-le, mul-le-mul-left, le-of-lt, le-of-eq, add-comm, suc-mul, lt-of-mul-lt-mul-right, le-of-suc-le-suc, mul-le-mul-right, mul-right-comm, mul-mul-mul-comm, le-add-right}
+use native.Mathlib.Nat.{zero-mul, one-mul, zero-add, add-mul, mul-add, mul-assoc, mod-eq-of-lt, mod-eq-sub-mod, div-add-mod', mul-lt-mul-of-pos-right}
+use native.Mathlib.Nat.{lt-of-le-of-lt, lt-of-lt-of-le, mul-le-mul-left, le-of-lt, le-of-eq, add-comm, suc-mul, lt-of-mul-lt-mul-right, le-of-suc-le-suc}
+use native.Mathlib.Nat.{mul-le-mul-right, mul-right-comm, mul-mul-mul-comm, le-add-right}
 use native.Mathlib.Omega.{arith}
 use mathlib.Core.Bool.{Bool, cond}
 use lib.Dec.{ltb, lt→ltb, ltb→lt}
@@ -23,7 +25,8 @@ flag-yes a b h = ap (λ (t : Bool). pick t) (is-true (ltb a b) (lt→ltb a b h))
 pub flag-no : (a b : ℕ) → b ≤ a → flag a b ≡ 0
 flag-no a b h = ap (λ (t : Bool). pick t) (is-false (ltb a b) (le→nltb a b h))
 
--- The sum of two numbers below the base m, modulo m, is below a summand just where a carry was lost. For a difference r = a - b the sum is b + r, and the same test is its borrow.
+-- The sum of two numbers below the base m, modulo m, is below a summand just where a carry was lost. For a difference r = a - b the sum is b + r, and the same
+-- test is its borrow.
 pub carried : (m a b r : ℕ) → a < m → b < m → r ≡ (a + b) % m → flag r a * m + r ≡ a + b
 carried m a b r p q e = elim (less-or-not (a + b) m) [
   | inl l ↦
@@ -38,7 +41,8 @@ carried m a b r p q e = elim (less-or-not (a + b) m) [
     back m r s g e = omega arith
 
 pub mul-lt-pow : (i j : ℕ) {x y : ℕ} → x < 2 ^ i → y < 2 ^ j → x * y < 2 ^ (i + j)
-mul-lt-pow i j {x} {y} p q = lt-of-le-of-lt (mul-le-mul-left x (le-of-lt q)) (lt-of-lt-of-le (mul-lt-mul-of-pos-right p (pow-pos j)) (le-of-eq (sym (pow-add 2 i j))))
+mul-lt-pow i j {x} {y} p q =
+    lt-of-le-of-lt (mul-le-mul-left x (le-of-lt q)) (lt-of-lt-of-le (mul-lt-mul-of-pos-right p (pow-pos j)) (le-of-eq (sym (pow-add 2 i j))))
 
 -- ---- two columns to the base m
 
@@ -72,16 +76,20 @@ module _ (m x a y b r : ℕ) (r-lt : r < m) (a-lt : a < m) (b-lt : b < m) (h : y
 pub multiplied : (n a b k l : ℕ) → k * (n * n) + l ≡ a % n * (b % n) + (a / n * (b % n) + a % n * (b / n)) % n * n
     → (a / n * (b / n) + (a / n * (b % n) + a % n * (b / n)) / n + k) * (n * n) + l ≡ a * b
 multiplied n a b k l e =
-    rearranged (a / n) (a % n) (b / n) (b % n) ((a / n * (b % n) + a % n * (b / n)) / n) ((a / n * (b % n) + a % n * (b / n)) % n) e (div-add-mod' (a / n * (b % n) + a % n * (b / n)) n)
+    rearranged (a / n) (a % n) (b / n) (b % n) ((a / n * (b % n) + a % n * (b / n)) / n) ((a / n * (b % n) + a % n * (b / n)) % n) e
+    (div-add-mod' (a / n * (b % n) + a % n * (b / n)) n)
     ∙ ap₂ (λ (x y : ℕ). x * y) (div-add-mod' a n) (div-add-mod' b n)
   where
-    rearranged : (a₁ a₀ b₁ b₀ h r : ℕ) → k * (n * n) + l ≡ a₀ * b₀ + r * n → h * n + r ≡ a₁ * b₀ + a₀ * b₁ → (a₁ * b₁ + h + k) * (n * n) + l ≡ (a₁ * n + a₀) * (b₁ * n + b₀)
+    rearranged : (a₁ a₀ b₁ b₀ h r : ℕ) → k * (n * n) + l ≡ a₀ * b₀ + r * n → h * n + r ≡ a₁ * b₀ + a₀ * b₁
+        → (a₁ * b₁ + h + k) * (n * n) + l ≡ (a₁ * n + a₀) * (b₁ * n + b₀)
     rearranged a₁ a₀ b₁ b₀ h r e f =
         let i : (a₁ * b₁ + h + k) * (n * n) ≡ (a₁ * b₁ + h) * (n * n) + k * (n * n) = add-mul (a₁ * b₁ + h) k (n * n) in
-        let j : (a₁ * b₁ + h) * (n * n) ≡ a₁ * b₁ * (n * n) + h * n * n = add-mul (a₁ * b₁) h (n * n) ∙ ap (λ (x : ℕ). a₁ * b₁ * (n * n) + x) (sym (mul-assoc h n n)) in
+        let j : (a₁ * b₁ + h) * (n * n) ≡ a₁ * b₁ * (n * n) + h * n * n =
+        add-mul (a₁ * b₁) h (n * n) ∙ ap (λ (x : ℕ). a₁ * b₁ * (n * n) + x) (sym (mul-assoc h n n)) in
         let o : h * n * n + r * n ≡ a₁ * b₀ * n + a₀ * b₁ * n = sym (add-mul (h * n) r n) ∙ ap (λ (x : ℕ). x * n) f ∙ add-mul (a₁ * b₀) (a₀ * b₁) n in
         let p : (a₁ * n + a₀) * (b₁ * n + b₀) ≡ a₁ * n * (b₁ * n + b₀) + a₀ * (b₁ * n + b₀) = add-mul (a₁ * n) a₀ (b₁ * n + b₀) in
-        let q : a₁ * n * (b₁ * n + b₀) ≡ a₁ * b₁ * (n * n) + a₁ * b₀ * n = mul-add (a₁ * n) (b₁ * n) b₀ ∙ ap₂ (λ (x y : ℕ). x + y) (mul-mul-mul-comm a₁ n b₁ n) (mul-right-comm a₁ n b₀) in
+        let q : a₁ * n * (b₁ * n + b₀) ≡ a₁ * b₁ * (n * n) + a₁ * b₀ * n =
+        mul-add (a₁ * n) (b₁ * n) b₀ ∙ ap₂ (λ (x y : ℕ). x + y) (mul-mul-mul-comm a₁ n b₁ n) (mul-right-comm a₁ n b₀) in
         let s : a₀ * (b₁ * n + b₀) ≡ a₀ * b₁ * n + a₀ * b₀ = mul-add a₀ (b₁ * n) b₀ ∙ ap (λ (x : ℕ). x + a₀ * b₀) (sym (mul-assoc a₀ b₁ n)) in
         omega (arith, i, j, o, p, q, s, e)
 
@@ -103,4 +111,6 @@ less-high x a y b p q n =
 -- ---- the high digit of a bounded number
 
 pub high-lt : (h l y k : ℕ) → h * 2 ^ 64 + l ≡ y → y < 2 ^ (k + 64) → h < 2 ^ k
-high-lt h l y k e u = lt-of-mul-lt-mul-right (2 ^ 64) (lt-of-le-of-lt (le-add-right (h * 2 ^ 64) l) (subst (λ (a : ℕ). a < 2 ^ k * 2 ^ 64) (sym e) (subst (λ (a : ℕ). y < a) (pow-add 2 k 64) u)))
+high-lt h l y k e u =
+    lt-of-mul-lt-mul-right (2 ^ 64)
+    (lt-of-le-of-lt (le-add-right (h * 2 ^ 64) l) (subst (λ (a : ℕ). a < 2 ^ k * 2 ^ 64) (sym e) (subst (λ (a : ℕ). y < a) (pow-add 2 k 64) u)))

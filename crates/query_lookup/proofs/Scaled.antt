@@ -9,8 +9,7 @@ use Rattle.rules.specs.declared.OutOfRangeMode.the-variants.{Error, Clamp}
 use Rattle.rules.specs.declared.PathRecord.{PathRecord}
 use Rattle.rules.specs.Floats.{+0, finite}
 use Rattle.rules.specs.Build.{validRange, invDs}
-use Rattle.rules.specs.Query.{inRange, clamped, scaled}
-use Rattle.query_lookup.specs.Path.{validPathRange}
+use Rattle.rules.specs.Query.{validPathRange, inRange, clamped, scaled}
 use Rattle.law_rounding.proofs.NotNan.{sub-number, mul-number, finite-between, finite-not-outside, above-zero, equal-positive}
 
 -- what the question says: each of its tests but the order of the ends, which is not needed here

@@ -10,15 +10,6 @@ use Rattle.fused.proofs.Common.{is-common, shift-room, common-fields, c
 use Rattle.fused.proofs.mul_add.Statement.{statement}
 use Rattle.fused.proofs.mul_add.Tie as tie
 
-number-requires : tie.Need-number-requires
-number-requires c κs = search needs
-
-number-requires-2 : tie.Need-number-requires-2
-number-requires-2 c κs = search needs
-
-number-requires-3 : tie.Need-number-requires-3
-number-requires-3 c κs = search needs
-
 float-to-bits-x : tie.Need-float-to-bits-x
 float-to-bits-x c = (held (sym (c .before .before .before .before .before .number .ensures) ∙ c .before .before .before .before .if1 .taken))
 
@@ -28,35 +19,8 @@ float-to-bits-y c = (held (sym (c .before .before .before .number2 .ensures) ∙
 float-to-bits-z : tie.Need-float-to-bits-z
 float-to-bits-z c = (held (sym (c .before .number3 .ensures) ∙ c .if3 .taken))
 
-add-wrapping-sub-u64 : tie.Need-add-wrapping-sub-u64
-add-wrapping-sub-u64 c = search needs
-
-add-wrapping-sub-u64-2 : tie.Need-add-wrapping-sub-u64-2
-add-wrapping-sub-u64-2 c = search needs
-
-wrapping-sub-u64-requires : tie.Need-wrapping-sub-u64-requires
-wrapping-sub-u64-requires c κs = search needs
-
-common-requires : tie.Need-common-requires
-common-requires c κs = search needs
-
-excess-requires : tie.Need-excess-requires
-excess-requires c κs = search needs
-
-sub-biased-sum : tie.Need-sub-biased-sum
-sub-biased-sum c = search needs
-
-biased-sum-requires : tie.Need-biased-sum-requires
-biased-sum-requires c κs = search needs
-
 long-requires : tie.Need-long-requires
 long-requires c κs = lt-of-lt-of-le (c .biased-sum .ensures .2) (lit≤ tt)
-
-add-converted : tie.Need-add-converted
-add-converted c = search needs
-
-add-converted-2 : tie.Need-add-converted-2
-add-converted-2 c = omega (arith, c .before .before .before .before .before .common .ensures (c .before .before .before .before .if4 .taken) .4, c .before .before .before .excess .ensures)
 
 converted-requires : tie.Need-converted-requires
 converted-requires c κs =
@@ -89,33 +53,27 @@ returns c =
     (c .before .before .long .ensures (c .before .if5 .taken))
     ∙ sym (by-bits (s .args .a) (s .args .b) (s .args .c) (held (s .good .0 .1)) (held (s .good .1 .0 .1)) (held (s .good .1 .1 .0 .1)) (f .0 .0) (f .1 .0) (f .2 .0))
 
-general-requires : tie.Need-general-requires
-general-requires c κs = search needs
-
-returns-2 : tie.Need-returns-2
-returns-2 c = search needs
-
 pub mul-add-spec : {M : Type 1} → statement M
 mul-add-spec =
     tie.close
     (tie.spec
-    number-requires
-    number-requires-2
-    number-requires-3
+    (λ c κs. search needs)
+    (λ c κs. search needs)
+    (λ c κs. search needs)
     float-to-bits-x
     float-to-bits-y
     float-to-bits-z
-    add-wrapping-sub-u64
-    add-wrapping-sub-u64-2
-    wrapping-sub-u64-requires
-    common-requires
-    excess-requires
-    sub-biased-sum
-    biased-sum-requires
+    (λ c. search needs)
+    (λ c. search needs)
+    (λ c κs. search needs)
+    (λ c κs. search needs)
+    (λ c κs. search needs)
+    (λ c. search needs)
+    (λ c κs. search needs)
     long-requires
-    add-converted
-    add-converted-2
+    (λ c. search needs)
+    (λ c. omega (arith, c .before .before .before .before .before .common .ensures (c .before .before .before .before .if4 .taken) .4, c .before .before .before .excess .ensures))
     converted-requires
     returns
-    general-requires
-    returns-2)
+    (λ c κs. search needs)
+    (λ c. search needs))

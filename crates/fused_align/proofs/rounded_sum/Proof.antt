@@ -13,28 +13,32 @@ use Rattle.fused_align.proofs.rounded_sum.Tie as tie
 join : (a b : ℕ) → a ≤ b → a + (b - a) ≡ b
 join a b h = omega arith
 
-sub-aligned : tie.Need-sub-aligned
-sub-aligned c = search needs
+-- the two numbers
+module _ (s : tie.Start) where
+  abbrev first : ℕ
+  first = s .args .xh * 2 ^ 64 + s .args .xl
 
-aligned-requires : tie.Need-aligned-requires
-aligned-requires c κs = search needs
-
-aligned-requires-2 : tie.Need-aligned-requires-2
-aligned-requires-2 c κs = search needs
+  abbrev second : ℕ
+  second = s .args .yh * 2 ^ 64 + s .args .yl
 
 returns : tie.Need-returns
 returns c =
-    let a = c .before .before .args in
+    let s = c .before .before in
+    let a = s .args in
     c .aligned .ensures
-    ∙ ap (λ (n : ℕ). Ieee.sum binary64 (a .yneg) ((a .yh * 2 ^ 64 + a .yl) * 2 ^ n) (a .xneg) ((a .xh * 2 ^ 64 + a .xl) * 2 ^ a .e) (2 ^ 2272)) (join (a .e) (a .d) (le-of-lt (c .before .if1 .taken)))
-    ∙ sum-swap binary64 (a .yneg) ((a .yh * 2 ^ 64 + a .yl) * 2 ^ a .d) (a .xneg) ((a .xh * 2 ^ 64 + a .xl) * 2 ^ a .e) (2 ^ 2272)
+    ∙ ap (λ (n : ℕ). Ieee.sum binary64 (a .yneg) (second s * 2 ^ n) (a .xneg) (first s * 2 ^ a .e) (2 ^ 2272))
+    (join (a .e) (a .d) (le-of-lt (c .before .if1 .taken)))
+    ∙ sum-swap binary64 (a .yneg) (second s * 2 ^ a .d) (a .xneg) (first s * 2 ^ a .e) (2 ^ 2272)
 
 returns-2 : tie.Need-returns-2
 returns-2 c =
-    let a = c .before .before .args in
+    let s = c .before .before in
+    let a = s .args in
     c .aligned2 .ensures
-    ∙ ap (λ (n : ℕ). Ieee.sum binary64 (a .xneg) ((a .xh * 2 ^ 64 + a .xl) * 2 ^ n) (a .yneg) ((a .yh * 2 ^ 64 + a .yl) * 2 ^ a .d) (2 ^ 2272)) (join (a .d) (a .e) (c .before .if1 .left))
+    ∙ ap (λ (n : ℕ). Ieee.sum binary64 (a .xneg) (first s * 2 ^ n) (a .yneg) (second s * 2 ^ a .d) (2 ^ 2272))
+    (join (a .d) (a .e) (c .before .if1 .left))
 
 pub rounded-sum-spec : {M : Type 1} → statement M
 rounded-sum-spec =
-    tie.close (tie.spec sub-aligned aligned-requires aligned-requires-2 returns returns-2)
+    tie.close
+    (tie.spec (λ c. search needs) (λ c κs. search needs) (λ c κs. search needs) returns returns-2)

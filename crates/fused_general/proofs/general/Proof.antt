@@ -7,24 +7,15 @@ use Rattle.fused_general.proofs.Values.{factor-not-finite, addend-not-f
 use Rattle.fused_general.proofs.general.Statement.{statement}
 use Rattle.fused_general.proofs.general.Tie as tie
 
-finite-requires : tie.Need-finite-requires
-finite-requires c κs = search needs
-
 returns : tie.Need-returns
 returns c =
     let a = c .before .before .args in
     factor-not-finite binary64 (a .a) (a .b) (a .c) (inl (was-infinite (a .a) (c .before .finite .result) (c .before .finite .ensures) (c .if1 .taken)))
 
-finite-requires-2 : tie.Need-finite-requires-2
-finite-requires-2 c κs = search needs
-
 returns-2 : tie.Need-returns-2
 returns-2 c =
     let a = c .before .before .before .before .args in
     factor-not-finite binary64 (a .a) (a .b) (a .c) (inr (was-infinite (a .b) (c .before .finite2 .result) (c .before .finite2 .ensures) (c .if2 .taken)))
-
-finite-requires-3 : tie.Need-finite-requires-3
-finite-requires-3 c κs = search needs
 
 returns-3 : tie.Need-returns-3
 returns-3 c =
@@ -42,18 +33,15 @@ of-finite-requires c κs =
       (was-finite (a .c) (c .before .finite3 .result) (c .before .finite3 .ensures) (c .if3 .left)),
     )
 
-returns-4 : tie.Need-returns-4
-returns-4 c = search needs
-
 pub general-spec : {M : Type 1} → statement M
 general-spec =
     tie.close
     (tie.spec
-    finite-requires
+    (λ c κs. search needs)
     returns
-    finite-requires-2
+    (λ c κs. search needs)
     returns-2
-    finite-requires-3
+    (λ c κs. search needs)
     returns-3
     of-finite-requires
-    returns-4)
+    (λ c. search needs))

@@ -10,24 +10,6 @@ use Rattle.fused_general.proofs.Unpack.{product-placed, addend-placed, 
 use Rattle.fused_general.proofs.of_bits.Statement.{statement}
 use Rattle.fused_general.proofs.of_bits.Tie as tie
 
-unpacked-requires : tie.Need-unpacked-requires
-unpacked-requires c κs = search needs
-
-unpacked-requires-2 : tie.Need-unpacked-requires-2
-unpacked-requires-2 c κs = search needs
-
-unpacked-requires-3 : tie.Need-unpacked-requires-3
-unpacked-requires-3 c κs = search needs
-
-product-requires : tie.Need-product-requires
-product-requires c κs = search needs
-
-add-rounded-sum : tie.Need-add-rounded-sum
-add-rounded-sum c = search needs
-
-add-rounded-sum-2 : tie.Need-add-rounded-sum-2
-add-rounded-sum-2 c = search needs
-
 rounded-sum-requires : tie.Need-rounded-sum-requires
 rounded-sum-requires c κs =
     let u = c .before .before .before .before .before .before .before .unpacked in
@@ -56,11 +38,11 @@ pub of-bits-spec : {M : Type 1} → statement M
 of-bits-spec =
     tie.close
     (tie.spec
-    unpacked-requires
-    unpacked-requires-2
-    unpacked-requires-3
-    product-requires
-    add-rounded-sum
-    add-rounded-sum-2
+    (λ c κs. search needs)
+    (λ c κs. search needs)
+    (λ c κs. search needs)
+    (λ c κs. search needs)
+    (λ c. search needs)
+    (λ c. search needs)
     rounded-sum-requires
     returns)

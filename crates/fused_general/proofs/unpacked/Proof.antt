@@ -18,15 +18,6 @@ shl-t10 c = let z = zeros-under (c .before .args .bits % 2 ^ 52) (low-pos (c .be
 sub-t11 : tie.Need-sub-t11
 sub-t11 c = let z = zeros-under (c .before .args .bits % 2 ^ 52) (low-pos (c .before .args .bits) (c .before .pre .1) (c .if1 .taken)) (low-lt (c .before .args .bits)) in omega (arith, z)
 
-add-t12 : tie.Need-add-t12
-add-t12 c = search needs
-
-mul-t13 : tie.Need-mul-t13
-mul-t13 c = search needs
-
-add-t14 : tie.Need-add-t14
-add-t14 c = search needs
-
 returns : tie.Need-returns
 returns c = unpacked-low (c .before .args .bits) (c .before .pre .1) (c .if1 .taken)
 
@@ -36,4 +27,4 @@ returns-2 c = unpacked-high (c .before .args .bits) (c .before .pre .0) (omega (
 pub unpacked-spec : {M : Type 1} → statement M
 unpacked-spec =
     tie.close
-    (tie.spec cast-zeros sub-t9 shl-t10 sub-t11 add-t12 mul-t13 add-t14 returns returns-2)
+    (tie.spec cast-zeros sub-t9 shl-t10 sub-t11 (λ c. search needs) (λ c. search needs) (λ c. search needs) returns returns-2)

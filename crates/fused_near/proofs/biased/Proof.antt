@@ -6,20 +6,8 @@ use Rattle.fused_near.proofs.Sum.{picked}
 use Rattle.fused_near.proofs.biased.Statement.{statement}
 use Rattle.fused_near.proofs.biased.Tie as tie
 
-add-high : tie.Need-add-high
-add-high c = search needs
-
-sum-requires : tie.Need-sum-requires
-sum-requires c κs = search needs
-
 difference-requires : tie.Need-difference-requires
 difference-requires c κs = let l = c .before .fits .cl .fits in omega (arith, c .before .pre .1, l)
-
-pick-requires : tie.Need-pick-requires
-pick-requires c κs = search needs
-
-pick-requires-2 : tie.Need-pick-requires-2
-pick-requires-2 c κs = search needs
 
 returns : tie.Need-returns
 returns c =
@@ -32,4 +20,4 @@ returns c =
 pub biased-spec : {M : Type 1} → statement M
 biased-spec =
     tie.close
-    (tie.spec add-high sum-requires difference-requires pick-requires pick-requires-2 returns)
+    (tie.spec (λ c. search needs) (λ c κs. search needs) difference-requires (λ c κs. search needs) (λ c κs. search needs) returns)

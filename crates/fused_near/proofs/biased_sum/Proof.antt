@@ -16,24 +16,6 @@ use Rattle.fused_near.proofs.biased_sum.Tie as tie
 shifted-lt : (x y k w q : ℕ) → w ≡ (2 ^ 52 + x % 2 ^ 52) * (2 ^ 52 + y % 2 ^ 52) → Sticky (2 ^ k) w q → q < 2 ^ 106
 shifted-lt x y k w q e s = lt-of-le-of-lt (sticky-le (2 ^ k) w q (pow-pos k) s) (subst (λ (i : ℕ). i < 2 ^ 106) (sym e) (product-lt x y))
 
-add-product : tie.Need-add-product
-add-product c = search needs
-
-add-product-2 : tie.Need-add-product-2
-add-product-2 c = search needs
-
-product-requires : tie.Need-product-requires
-product-requires c κs = search needs
-
-shifted-requires : tie.Need-shifted-requires
-shifted-requires c κs = search needs
-
-add-lifted : tie.Need-add-lifted
-add-lifted c = search needs
-
-lifted-requires : tie.Need-lifted-requires
-lifted-requires c κs = search needs
-
 biased-requires : tie.Need-biased-requires
 biased-requires c κs =
     let a = c .before .before .before .args in
@@ -63,11 +45,11 @@ pub biased-sum-spec : {M : Type 1} → statement M
 biased-sum-spec =
     tie.close
     (tie.spec
-    add-product
-    add-product-2
-    product-requires
-    shifted-requires
-    add-lifted
-    lifted-requires
+    (λ c. search needs)
+    (λ c. search needs)
+    (λ c κs. search needs)
+    (λ c κs. search needs)
+    (λ c. search needs)
+    (λ c κs. search needs)
     biased-requires
     returns)

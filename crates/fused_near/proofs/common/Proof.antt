@@ -11,8 +11,5 @@ returns c h = absurd (subst T (sym h) tt)
 returns-2 : tie.Need-returns-2
 returns-2 c h = absurd (subst T (sym h) tt)
 
-returns-3 : tie.Need-returns-3
-returns-3 c = search needs
-
 pub common-spec : {M : Type 1} → statement M
-common-spec = tie.close (tie.spec returns returns-2 returns-3)
+common-spec = tie.close (tie.spec returns returns-2 (λ c. search needs))

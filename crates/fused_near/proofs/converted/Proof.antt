@@ -6,26 +6,8 @@ use Rattle.fused_near.proofs.Convert.{low-short, low-sticky, fits-float
 use Rattle.fused_near.proofs.converted.Statement.{statement}
 use Rattle.fused_near.proofs.converted.Tie as tie
 
-marked-requires : tie.Need-marked-requires
-marked-requires c κs = search needs
-
 int-to-float-l : tie.Need-int-to-float-l
 int-to-float-l c = let b = c .before .before in fits-float (c .before .marked .result) (low-short (b .args .low) (c .before .marked .result) (b .fits .low .fits) (c .before .marked .ensures))
-
-unbiased-requires : tie.Need-unbiased-requires
-unbiased-requires c κs = search needs
-
-sub-power : tie.Need-sub-power
-sub-power c = search needs
-
-power-requires : tie.Need-power-requires
-power-requires c κs = search needs
-
-sub-power-2 : tie.Need-sub-power-2
-sub-power-2 c = search needs
-
-power-requires-2 : tie.Need-power-requires-2
-power-requires-2 c κs = search needs
 
 returns : tie.Need-returns
 returns c =
@@ -46,11 +28,11 @@ pub converted-spec : {M : Type 1} → statement M
 converted-spec =
     tie.close
     (tie.spec
-    marked-requires
+    (λ c κs. search needs)
     int-to-float-l
-    unbiased-requires
-    sub-power
-    power-requires
-    sub-power-2
-    power-requires-2
+    (λ c κs. search needs)
+    (λ c. search needs)
+    (λ c κs. search needs)
+    (λ c. search needs)
+    (λ c κs. search needs)
     returns)

@@ -7,17 +7,11 @@ use borrow.Author.Needs.{needs}
 use Rattle.fused_near.proofs.long.Statement.{statement}
 use Rattle.fused_near.proofs.long.Tie as tie
 
-add-if1 : tie.Need-add-if1
-add-if1 c = search needs
-
 returns : tie.Need-returns
 returns c = λ h. inr (c .if1 .taken)
-
-add-result : tie.Need-add-result
-add-result c = search needs
 
 returns-2 : tie.Need-returns-2
 returns-2 c = λ h. inl (leb→le (2 ^ 51 + 4) (c .before .args .high) (subst T (sym h) tt))
 
 pub long-spec : {M : Type 1} → statement M
-long-spec = tie.close (tie.spec add-if1 returns add-result returns-2)
+long-spec = tie.close (tie.spec (λ c. search needs) returns (λ c. search needs) returns-2)

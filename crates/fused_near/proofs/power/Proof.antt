@@ -12,17 +12,8 @@ use Rattle.fused_near.proofs.Convert.{power-negative, power-positive}
 use Rattle.fused_near.proofs.power.Statement.{statement}
 use Rattle.fused_near.proofs.power.Tie as tie
 
-mul-result : tie.Need-mul-result
-mul-result c = search needs
-
-add-result : tie.Need-add-result
-add-result c = search needs
-
 float-from-bits-result : tie.Need-float-from-bits-result
 float-from-bits-result c = no-nan binary64 true (c .before .args .field * 2 ^ 52) (mul-le-mul-right (2 ^ 52) (le-of-lt (c .before .pre .1)))
-
-mul-result-2 : tie.Need-mul-result-2
-mul-result-2 c = search needs
 
 float-from-bits-result-2 : tie.Need-float-from-bits-result-2
 float-from-bits-result-2 c = subst (λ (b : ℕ). T (not (nanBits binary64 b))) (zero-add (c .before .args .field * 2 ^ 52)) (no-nan binary64 false (c .before .args .field * 2 ^ 52) (mul-le-mul-right (2 ^ 52) (le-of-lt (c .before .pre .1))))
@@ -41,10 +32,10 @@ pub power-spec : {M : Type 1} → statement M
 power-spec =
     tie.close
     (tie.spec
-    mul-result
-    add-result
+    (λ c. search needs)
+    (λ c. search needs)
     float-from-bits-result
-    mul-result-2
+    (λ c. search needs)
     float-from-bits-result-2
     returns
     returns-2)

@@ -4,9 +4,6 @@ use Rattle.fused_near.proofs.Convert.{difference-fits, exact-cast, unbi
 use Rattle.fused_near.proofs.unbiased.Statement.{statement}
 use Rattle.fused_near.proofs.unbiased.Tie as tie
 
-cast-result : tie.Need-cast-result
-cast-result c = search needs
-
 sub-result : tie.Need-sub-result
 sub-result c = difference-fits (c .args .high) (c .pre)
 
@@ -17,4 +14,4 @@ returns : tie.Need-returns
 returns c = (unbiased-above (c .before .args .high) (c .before .pre), unbiased-below (c .before .args .high) (c .before .pre))
 
 pub unbiased-spec : {M : Type 1} → statement M
-unbiased-spec = tie.close (tie.spec cast-result sub-result int-to-float-result returns)
+unbiased-spec = tie.close (tie.spec (λ c. search needs) sub-result int-to-float-result returns)

@@ -5,15 +5,6 @@ use Rattle.fused_pack.proofs.Round.{one-word, two-words}
 use Rattle.fused_pack.proofs.from_words.Statement.{statement}
 use Rattle.fused_pack.proofs.from_words.Tie as tie
 
-leading-requires : tie.Need-leading-requires
-leading-requires c κs = search needs
-
-add-leading : tie.Need-add-leading
-add-leading c = search needs
-
-leading-requires-2 : tie.Need-leading-requires-2
-leading-requires-2 c κs = search needs
-
 returns : tie.Need-returns
 returns c v x p s only =
     let a = c .before .before .args in
@@ -26,4 +17,4 @@ returns-2 c v x p s only =
 
 pub from-words-spec : {M : Type 1} → statement M
 from-words-spec =
-    tie.close (tie.spec leading-requires add-leading leading-requires-2 returns returns-2)
+    tie.close (tie.spec (λ c κs. search needs) (λ c. search needs) (λ c κs. search needs) returns returns-2)

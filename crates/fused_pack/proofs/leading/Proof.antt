@@ -22,9 +22,6 @@ shl-w c = zeros-lt (c .args .high) (c .pre .0) (c .fits .high .fits)
 sub-w : tie.Need-sub-w
 sub-w c = let z = zeros-lt (c .args .high) (c .pre .0) (c .fits .high .fits) in omega (arith, z)
 
-shr-w : tie.Need-shr-w
-shr-w c = search needs
-
 add-w : tie.Need-add-w
 add-w c =
     let h = c .args .high in
@@ -32,12 +29,6 @@ add-w c =
 
 shl-marked : tie.Need-shl-marked
 shl-marked c = zeros-lt (c .args .high) (c .pre .0) (c .fits .high .fits)
-
-marked-requires : tie.Need-marked-requires
-marked-requires c κs = search needs
-
-add-rounded : tie.Need-add-rounded
-add-rounded c = search needs
 
 sub-rounded : tie.Need-sub-rounded
 sub-rounded c = let z = zeros-lt (c .before .args .high) (c .before .pre .0) (c .before .fits .high .fits) in omega (arith, z)
@@ -69,11 +60,11 @@ leading-spec =
     cast-zeros
     shl-w
     sub-w
-    shr-w
+    (λ c. search needs)
     add-w
     shl-marked
-    marked-requires
-    add-rounded
+    (λ c κs. search needs)
+    (λ c. search needs)
     sub-rounded
     rounded-requires
     returns)

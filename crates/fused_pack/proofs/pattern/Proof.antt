@@ -20,20 +20,8 @@ capped k w n b e f = f ∙ ap (λ (x : ℕ). min (k * hid binary64 + x) (ones bi
 signed : (t : Bool) (s : Bool) (k w b : ℕ) → s ≡ t → b ≡ min (k * hid binary64 + closest w (2 ^ 11)) (ones binary64 * hid binary64) → ofBits binary64 (cond t (top binary64) 0 + b) ≡ Patterned s w k
 signed t s k w b e f = ap₂ (λ (u : Bool) (x : ℕ). ofBits binary64 (cond u (top binary64) 0 + x)) (sym e) f
 
-mul-smaller : tie.Need-mul-smaller
-mul-smaller c = search needs
-
-nearest-requires : tie.Need-nearest-requires
-nearest-requires c κs = search needs
-
 add-smaller : tie.Need-add-smaller
 add-smaller c = let w = c .before .args .w in let n = nearest-lt w (c .before .fits .w .fits) in omega (arith, c .nearest .ensures, n, c .before .pre)
-
-smaller-requires : tie.Need-smaller-requires
-smaller-requires c κs = search needs
-
-add-result : tie.Need-add-result
-add-result c = search needs
 
 float-from-bits-result : tie.Need-float-from-bits-result
 float-from-bits-result c = no-nan binary64 true (c .before .smaller .result) (le-trans (le-of-eq (c .before .smaller .ensures)) (le-trans (min-le-right _ _) (lit≤ tt)))
@@ -56,11 +44,11 @@ pub pattern-spec : {M : Type 1} → statement M
 pattern-spec =
     tie.close
     (tie.spec
-    mul-smaller
-    nearest-requires
+    (λ c. search needs)
+    (λ c κs. search needs)
     add-smaller
-    smaller-requires
-    add-result
+    (λ c κs. search needs)
+    (λ c. search needs)
     float-from-bits-result
     float-from-bits-result-2
     returns

@@ -5,18 +5,6 @@ use Rattle.fused_pack.proofs.Round.{rounded-low, rounded-high}
 use Rattle.fused_pack.proofs.rounded.Statement.{statement}
 use Rattle.fused_pack.proofs.rounded.Tie as tie
 
-sub-shifted-word : tie.Need-sub-shifted-word
-sub-shifted-word c = search needs
-
-shifted-word-requires : tie.Need-shifted-word-requires
-shifted-word-requires c κs = search needs
-
-pattern-requires : tie.Need-pattern-requires
-pattern-requires c κs = search needs
-
-pattern-requires-2 : tie.Need-pattern-requires-2
-pattern-requires-2 c κs = search needs
-
 returns : tie.Need-returns
 returns c v x p s =
     let a = c .before .before .before .args in
@@ -31,9 +19,9 @@ pub rounded-spec : {M : Type 1} → statement M
 rounded-spec =
     tie.close
     (tie.spec
-    sub-shifted-word
-    shifted-word-requires
-    pattern-requires
-    pattern-requires-2
+    (λ c. search needs)
+    (λ c κs. search needs)
+    (λ c κs. search needs)
+    (λ c κs. search needs)
     returns
     returns-2)

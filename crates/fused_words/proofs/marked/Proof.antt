@@ -5,12 +5,6 @@ use borrow.Author.Needs.{needs}
 use Rattle.fused_words.proofs.marked.Statement.{statement}
 use Rattle.fused_words.proofs.marked.Tie as tie
 
-mul-result : tie.Need-mul-result
-mul-result c = search needs
-
-add-result : tie.Need-add-result
-add-result c = search needs
-
 returns : tie.Need-returns
 returns c = let e = c .if1 .taken in (λ h. refl, λ h. absurd (omega (arith, e, h)))
 
@@ -18,4 +12,4 @@ returns-2 : tie.Need-returns-2
 returns-2 c = (λ h. absurd (c .if1 .left h), λ h. refl)
 
 pub marked-spec : {M : Type 1} → statement M
-marked-spec = tie.close (tie.spec mul-result add-result returns returns-2)
+marked-spec = tie.close (tie.spec (λ c. search needs) (λ c. search needs) returns returns-2)

@@ -65,9 +65,6 @@ as-it-was p {number} h is =
     let same : (k : ℕ) (xs : List Float) → xs ≡ derivativeAfter (given p) (lengths p) k xs = λ k xs. sym (refused (given p) (lengths p) number h is k xs) in
     record { number-is = sym is; q-is = same 0 _; dq-is = same 1 _; ddq-is = same 2 _; dddq-is = same 3 _ }
 
-query-questions-requires : tie.Need-query-questions-requires
-query-questions-requires c κs = search needs
-
 returns : tie.Need-returns
 returns c =
     let p = c .before in
@@ -78,9 +75,6 @@ segment-tau-requires c κs = findable (given (c .before)) (lengths (c .before)) 
 
 enum-told : tie.Need-enum-told
 enum-told c = search needs
-
-enum-known-segment : tie.Need-enum-known-segment
-enum-known-segment c = search needs
 
 eval-axes-requires : tie.Need-eval-axes-requires
 unfolding lookupSays
@@ -100,18 +94,6 @@ returns-2 c =
     let a = start p .args in
     let says : lookupSays (lookup (a .path) (a .s)) .number ≡ 305 = ap (λ (says : LookupSays). says .number) (sym (l .segment-tau .ensures) ∙ ap lookupSays (c .enum-told .given .1)) in
     as-it-was p (λ e. omega arith) (range-number (given p) (lengths p) (said-yes (l .before)) (out-of-range (a .path) (a .s) says))
-
-same-length : tie.Need-same-length
-same-length c = search needs
-
-same-length-2 : tie.Need-same-length-2
-same-length-2 c = search needs
-
-same-length-3 : tie.Need-same-length-3
-same-length-3 c = search needs
-
-same-length-4 : tie.Need-same-length-4
-same-length-4 c = search needs
 
 returns-3 : tie.Need-returns-3
 returns-3 c =
@@ -136,15 +118,15 @@ pub eval-at-spec : {M : Type 1} → statement M
 eval-at-spec =
     tie.close
     (tie.spec
-    query-questions-requires
+    (λ c κs. search needs)
     returns
     segment-tau-requires
     enum-told
-    enum-known-segment
+    (λ c. search needs)
     eval-axes-requires
     returns-2
-    same-length
-    same-length-2
-    same-length-3
-    same-length-4
+    (λ c. search needs)
+    (λ c. search needs)
+    (λ c. search needs)
+    (λ c. search needs)
     returns-3)

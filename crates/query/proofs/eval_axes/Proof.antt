@@ -109,12 +109,6 @@ add-eval-poly-2 c = let h = places c in record { fits = omega (arith, h .small) 
 mul-eval-poly : tie.Need-mul-eval-poly Inv-loop μ-loop
 mul-eval-poly c = let h = places c in record { fits = omega (arith, h .small) }
 
-sub-eval-poly : tie.Need-sub-eval-poly Inv-loop μ-loop
-sub-eval-poly c = omega arith
-
-part-eval-poly-start : tie.Need-part-eval-poly-start Inv-loop μ-loop
-part-eval-poly-start c = search needs
-
 part-eval-poly-end : tie.Need-part-eval-poly-end Inv-loop μ-loop
 part-eval-poly-end c = places c .room
 
@@ -203,8 +197,8 @@ eval-axes-spec =
     add-eval-poly
     add-eval-poly-2
     mul-eval-poly
-    sub-eval-poly
-    part-eval-poly-start
+    (λ c. omega arith)
+    (λ c. search needs)
     part-eval-poly-end
     eval-poly-requires
     mul-q

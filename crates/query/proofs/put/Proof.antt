@@ -16,9 +16,6 @@ mul-cells c = let h = inside c in search needs
 slice-write-cells : tie.Need-slice-write-cells
 slice-write-cells c = inside c
 
-same-length : tie.Need-same-length
-same-length c = search needs
-
 returns : tie.Need-returns
 returns c = rw (le-leb _ _ (c .if1 .taken))
 
@@ -26,4 +23,4 @@ returns-2 : tie.Need-returns-2
 returns-2 c = rw (lt-leb _ _ (c .if1 .left))
 
 pub put-spec : {M : Type 1} → statement M
-put-spec = tie.close (tie.spec mul-cells slice-write-cells same-length returns returns-2)
+put-spec = tie.close (tie.spec mul-cells slice-write-cells (λ c. search needs) returns returns-2)

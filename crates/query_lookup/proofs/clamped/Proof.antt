@@ -7,9 +7,6 @@ use Rattle.query_lookup.proofs.clamped.Tie as tie
 enum-told : tie.Need-enum-told
 enum-told c = search needs
 
-enum-told-2 : tie.Need-enum-told-2
-enum-told-2 c = search needs
-
 returns : tie.Need-returns
 unfolding clamped
 returns c = rw (c .before .before .before .enum-told2 .given .1, c .if1 .taken)
@@ -31,4 +28,4 @@ returns-4 c =
     rw (d .before .before .before .enum-told2 .given .1, d .if1 .left, c .if2 .left)
 
 pub clamped-spec : {M : Type 1} → statement M
-clamped-spec = tie.close (tie.spec enum-told enum-told-2 returns returns-2 returns-3 returns-4)
+clamped-spec = tie.close (tie.spec enum-told (λ c. search needs) returns returns-2 returns-3 returns-4)

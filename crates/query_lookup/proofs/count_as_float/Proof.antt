@@ -14,9 +14,6 @@ use Rattle.query_lookup.proofs.count_as_float.Tie as tie
 same : (c : tie.Start) → toZ w64 (c .args .n) ≡ pos (c .args .n)
 same c = toZ-pos w64 (lt-of-le-of-lt (c .pre) (lit≤ tt))
 
-cast-result : tie.Need-cast-result
-cast-result c = search needs
-
 int-to-float-result : tie.Need-int-to-float-result
 unfolding inFloat
 int-to-float-result c = subst (λ (z : ℤ). T (inFloat binary64 z)) (sym (same (c .before))) (le→leb (c .before .args .n) 9007199254740992 (le-trans (c .before .pre) (lit≤ tt)))
@@ -25,4 +22,4 @@ returns : tie.Need-returns
 returns c = ap (ofInt binary64) (same (c .before))
 
 pub count-as-float-spec : {M : Type 1} → statement M
-count-as-float-spec = tie.close (tie.spec cast-result int-to-float-result returns)
+count-as-float-spec = tie.close (tie.spec (λ c. search needs) int-to-float-result returns)

@@ -34,9 +34,6 @@ int-to-float-if2 : tie.Need-int-to-float-if2
 unfolding inFloat
 int-to-float-if2 c = le→leb _ (2 ^ 53) (few (c .before .before .before) (lit≤ tt))
 
-sub-t7 : tie.Need-sub-t7
-sub-t7 c = search needs
-
 returns-2 : tie.Need-returns-2
 unfolding located ofBits
 returns-2 c = rw (c .before .before .before .if1 .left, c .if2 .taken) refl
@@ -63,7 +60,7 @@ located-spec =
     (tie.spec
     returns
     int-to-float-if2
-    sub-t7
+    (λ c. search needs)
     returns-2
     truncating-f64-to-u64-requires
     count-as-float-requires

@@ -13,15 +13,9 @@ inside : (c : tie.Else1) → let a = c .before .before .before .before .args in
     inRange (a .path .mode) (a .path .«s_min») (a .path .«s_max») (a .s) ≡ true
 inside c = sym (c .before .in-range .ensures) ∙ not-false (c .before .in-range .result) (c .if1 .left)
 
-in-range-requires : tie.Need-in-range-requires
-in-range-requires c κs = search needs
-
 returns : tie.Need-returns
 unfolding lookup
 returns c = rw (← c .before .in-range .ensures, not-true (c .before .in-range .result) (c .if1 .taken))
-
-clamped-requires : tie.Need-clamped-requires
-clamped-requires c κs = search needs
 
 located-requires : tie.Need-located-requires
 unfolding scaled
@@ -39,4 +33,4 @@ returns-2 c =
 
 pub segment-tau-spec : {M : Type 1} → statement M
 segment-tau-spec =
-    tie.close (tie.spec in-range-requires returns clamped-requires located-requires returns-2)
+    tie.close (tie.spec (λ c κs. search needs) returns (λ c κs. search needs) located-requires returns-2)

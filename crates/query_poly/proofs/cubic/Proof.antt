@@ -33,47 +33,8 @@ module _ (c : tie.After-mul-add6) where
   unfolding ofBits ofInt listed derivativeFactor
   second = derivative-is _ 2 (start .pre .1) (step (c .before .before .before .mul-add3 .ensures) last)
 
-cubic-position-requires : tie.Need-cubic-position-requires
-cubic-position-requires c κs = search needs
-
-position-requires : tie.Need-position-requires
-position-requires c κs = search needs
-
 returns : tie.Need-returns
 returns c = c .position .ensures ∙ asked-0 (derivative (c .before .before .before .before)) (c .before .cubic-position .ensures) (c .before .before .if1 .taken)
-
-shared-slice-read-a0 : tie.Need-shared-slice-read-a0
-shared-slice-read-a0 c = search needs
-
-shared-slice-read-a1 : tie.Need-shared-slice-read-a1
-shared-slice-read-a1 c = search needs
-
-shared-slice-read-a2 : tie.Need-shared-slice-read-a2
-shared-slice-read-a2 c = search needs
-
-shared-slice-read-a3 : tie.Need-shared-slice-read-a3
-shared-slice-read-a3 c = search needs
-
-mul-add-requires : tie.Need-mul-add-requires
-mul-add-requires c κs = search needs
-
-mul-add-requires-2 : tie.Need-mul-add-requires-2
-mul-add-requires-2 c κs = search needs
-
-mul-add-requires-3 : tie.Need-mul-add-requires-3
-mul-add-requires-3 c κs = search needs
-
-mul-add-requires-4 : tie.Need-mul-add-requires-4
-mul-add-requires-4 c κs = search needs
-
-mul-add-requires-5 : tie.Need-mul-add-requires-5
-mul-add-requires-5 c κs = search needs
-
-mul-add-requires-6 : tie.Need-mul-add-requires-6
-mul-add-requires-6 c κs = search needs
-
-up-to-second-requires : tie.Need-up-to-second-requires
-up-to-second-requires c κs = search needs
 
 returns-2 : tie.Need-returns-2
 returns-2 c =
@@ -91,19 +52,19 @@ pub cubic-spec : {M : Type 1} → statement M
 cubic-spec =
     tie.close
     (tie.spec
-    cubic-position-requires
-    position-requires
+    (λ c κs. search needs)
+    (λ c κs. search needs)
     returns
-    shared-slice-read-a0
-    shared-slice-read-a1
-    shared-slice-read-a2
-    shared-slice-read-a3
-    mul-add-requires
-    mul-add-requires-2
-    mul-add-requires-3
-    mul-add-requires-4
-    mul-add-requires-5
-    mul-add-requires-6
-    up-to-second-requires
+    (λ c. search needs)
+    (λ c. search needs)
+    (λ c. search needs)
+    (λ c. search needs)
+    (λ c κs. search needs)
+    (λ c κs. search needs)
+    (λ c κs. search needs)
+    (λ c κs. search needs)
+    (λ c κs. search needs)
+    (λ c κs. search needs)
+    (λ c κs. search needs)
     returns-2
     returns-3)

@@ -29,15 +29,9 @@ module _ (c : tie.Else2) where
 three : (c : tie.Else4) → start (c .before .before) .args .level ≡ 3
 three c = is-3 _ (start (c .before .before) .pre .1) (c .before .if3 .left) (c .if4 .left)
 
-cubic-requires : tie.Need-cubic-requires
-cubic-requires c κs = search needs
-
 returns : tie.Need-returns
 unfolding evalPoly
 returns c = rw (c .before .if1 .taken) (c .cubic .ensures)
-
-quintic-requires : tie.Need-quintic-requires
-quintic-requires c κs = search needs
 
 returns-2 : tie.Need-returns-2
 unfolding evalPoly
@@ -71,9 +65,9 @@ pub eval-poly-spec : {M : Type 1} → statement M
 eval-poly-spec =
     tie.close
     (tie.spec
-    cubic-requires
+    (λ c κs. search needs)
     returns
-    quintic-requires
+    (λ c κs. search needs)
     returns-2
     general-requires
     returns-3

@@ -7,15 +7,9 @@ use Rattle.query_poly.proofs.Levels.{is-3}
 use Rattle.query_poly.proofs.general_step.Statement.{statement}
 use Rattle.query_poly.proofs.general_step.Tie as tie
 
-position-requires : tie.Need-position-requires
-position-requires c κs = search needs
-
 returns : tie.Need-returns
 unfolding generalLoop loopDerivative
 returns c y rest e = c .position .ensures ∙ rw (e, c .before .if1 .taken)
-
-up-to-second-requires : tie.Need-up-to-second-requires
-up-to-second-requires c κs = search needs
 
 returns-2 : tie.Need-returns-2
 unfolding ofBits ofInt generalLoop loopDerivative
@@ -29,4 +23,4 @@ returns-3 c y rest e =
 
 pub general-step-spec : {M : Type 1} → statement M
 general-step-spec =
-    tie.close (tie.spec position-requires returns up-to-second-requires returns-2 returns-3)
+    tie.close (tie.spec (λ c κs. search needs) returns (λ c κs. search needs) returns-2 returns-3)

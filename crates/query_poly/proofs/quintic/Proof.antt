@@ -33,82 +33,13 @@ module _ (c : tie.After-mul-add12) where
   unfolding ofBits ofInt listed derivativeFactor
   second = derivative-is _ 2 (start .pre .1) (step (c .before .before .before .mul-add9 .ensures) (step (c .before .before .before .before .before .before .mul-add6 .ensures) (step (c .before .before .before .before .before .before .before .before .before .mul-add3 .ensures) last)))
 
-quintic-position-requires : tie.Need-quintic-position-requires
-quintic-position-requires c κs = search needs
-
-position-requires : tie.Need-position-requires
-position-requires c κs = search needs
-
 returns : tie.Need-returns
 returns c = c .position .ensures ∙ asked-0 (derivative (c .before .before .before .before)) (c .before .quintic-position .ensures) (c .before .before .if1 .taken)
-
-shared-slice-read-a0 : tie.Need-shared-slice-read-a0
-shared-slice-read-a0 c = search needs
-
-shared-slice-read-a1 : tie.Need-shared-slice-read-a1
-shared-slice-read-a1 c = search needs
-
-shared-slice-read-a2 : tie.Need-shared-slice-read-a2
-shared-slice-read-a2 c = search needs
-
-shared-slice-read-a3 : tie.Need-shared-slice-read-a3
-shared-slice-read-a3 c = search needs
-
-shared-slice-read-a4 : tie.Need-shared-slice-read-a4
-shared-slice-read-a4 c = search needs
-
-shared-slice-read-a5 : tie.Need-shared-slice-read-a5
-shared-slice-read-a5 c = search needs
-
-mul-add-requires : tie.Need-mul-add-requires
-mul-add-requires c κs = search needs
-
-mul-add-requires-2 : tie.Need-mul-add-requires-2
-mul-add-requires-2 c κs = search needs
-
-mul-add-requires-3 : tie.Need-mul-add-requires-3
-mul-add-requires-3 c κs = search needs
-
-mul-add-requires-4 : tie.Need-mul-add-requires-4
-mul-add-requires-4 c κs = search needs
-
-mul-add-requires-5 : tie.Need-mul-add-requires-5
-mul-add-requires-5 c κs = search needs
-
-mul-add-requires-6 : tie.Need-mul-add-requires-6
-mul-add-requires-6 c κs = search needs
-
-mul-add-requires-7 : tie.Need-mul-add-requires-7
-mul-add-requires-7 c κs = search needs
-
-mul-add-requires-8 : tie.Need-mul-add-requires-8
-mul-add-requires-8 c κs = search needs
-
-mul-add-requires-9 : tie.Need-mul-add-requires-9
-mul-add-requires-9 c κs = search needs
-
-mul-add-requires-10 : tie.Need-mul-add-requires-10
-mul-add-requires-10 c κs = search needs
-
-mul-add-requires-11 : tie.Need-mul-add-requires-11
-mul-add-requires-11 c κs = search needs
-
-mul-add-requires-12 : tie.Need-mul-add-requires-12
-mul-add-requires-12 c κs = search needs
-
-up-to-second-requires : tie.Need-up-to-second-requires
-up-to-second-requires c κs = search needs
 
 returns-2 : tie.Need-returns-2
 returns-2 c =
     let at = c .before .before in
     c .up-to-second .ensures ∙ asked-2 (derivative (start at)) (position at) (first at) (second at) (c .before .if2 .taken)
-
-mul-add-requires-13 : tie.Need-mul-add-requires-13
-mul-add-requires-13 c κs = search needs
-
-mul-add-requires-14 : tie.Need-mul-add-requires-14
-mul-add-requires-14 c κs = search needs
 
 returns-3 : tie.Need-returns-3
 unfolding ofBits ofInt listed derivativeFactor
@@ -123,29 +54,29 @@ pub quintic-spec : {M : Type 1} → statement M
 quintic-spec =
     tie.close
     (tie.spec
-    quintic-position-requires
-    position-requires
+    (λ c κs. search needs)
+    (λ c κs. search needs)
     returns
-    shared-slice-read-a0
-    shared-slice-read-a1
-    shared-slice-read-a2
-    shared-slice-read-a3
-    shared-slice-read-a4
-    shared-slice-read-a5
-    mul-add-requires
-    mul-add-requires-2
-    mul-add-requires-3
-    mul-add-requires-4
-    mul-add-requires-5
-    mul-add-requires-6
-    mul-add-requires-7
-    mul-add-requires-8
-    mul-add-requires-9
-    mul-add-requires-10
-    mul-add-requires-11
-    mul-add-requires-12
-    up-to-second-requires
+    (λ c. search needs)
+    (λ c. search needs)
+    (λ c. search needs)
+    (λ c. search needs)
+    (λ c. search needs)
+    (λ c. search needs)
+    (λ c κs. search needs)
+    (λ c κs. search needs)
+    (λ c κs. search needs)
+    (λ c κs. search needs)
+    (λ c κs. search needs)
+    (λ c κs. search needs)
+    (λ c κs. search needs)
+    (λ c κs. search needs)
+    (λ c κs. search needs)
+    (λ c κs. search needs)
+    (λ c κs. search needs)
+    (λ c κs. search needs)
+    (λ c κs. search needs)
     returns-2
-    mul-add-requires-13
-    mul-add-requires-14
+    (λ c κs. search needs)
+    (λ c κs. search needs)
     returns-3)
