@@ -16,12 +16,9 @@ use Rattle.law_rounding.proofs.Numbers.{less-or-not, sub-mul}
 use Rattle.law_rounding.proofs.Sticky.{sticky-add, sticky-from, sticky-less, sticky-below, sticky-above}
 use Rattle.law_rounding.proofs.Sums.{like-times, more-times, less-times, sum-none}
 use Rattle.law_rounding.proofs.Values.{round-move, round-zero}
+use Rattle.fused_pack.specs.Rounds.{Rounds}
 use Rattle.fused_align.specs.Placed.{Placed}
 use Rattle.fused_words.proofs.Carry.{high-lt}
-
--- what `from_words` says of its result
-abbrev pub Rounds : Bool → ℕ → ℕ → ℕ → Float → Type 0
-Rounds s h l e r = (v x : ℕ) → 0 < v → Sticky v x (h * 2 ^ 64 + l) → (h ≡ 0 → x ≡ l * v) → r ≡ round binary64 s (x * 2 ^ e) (v * 2 ^ 2272)
 
 -- ---- a shift of less than three loses nothing of a multiple of four
 

@@ -4,10 +4,10 @@
 // x / v with a sticky last bit. So no function here has to know what was cut off.
 ghost use mathlib.Core.Path.{_≡_};
 ghost use Prim.Native.Nat.{ℕ, _+_, _*_, _^_, _≤_, _<_, min};
-ghost use mathlib.Core.Bool.{cond};
-ghost use lib.Ieee.{binary64, round, hid, ones, top, ofBits};
+ghost use lib.Ieee.{binary64, round};
 ghost use lib.Ieee.Nearest.{closest};
 ghost use Rattle.law_rounding.specs.Sticky.{Sticky};
+ghost use Rattle.fused_pack.specs.Rounds.{Patterned, Rounds};
 use fused_words::HIDDEN;
 use fused_words::SIGN;
 use fused_words::marked;
@@ -31,7 +31,7 @@ fn smaller(a: u64, b: u64) -> u64
 // out of them moves on into the field and, at the top, makes the infinity.
 fn pattern(negative: bool, w: u64, k: u64) -> f64
     requires { ⌜ k < 4000 ⌝ }
-    ensures { λ r. ⌜ r ≡ ofBits binary64 (cond negative (top binary64) 0 + min (k * hid binary64 + closest w (2 ^ 11)) (ones binary64 * hid binary64)) ⌝ }
+    ensures { λ r. ⌜ r ≡ Patterned negative w k ⌝ }
 {
     let bits = smaller(k * HIDDEN + nearest(w), 0x7ff0_0000_0000_0000);
     if negative {
@@ -68,7 +68,7 @@ fn leading(negative: bool, high: u64, low: u64, e: u64) -> f64
 // is not the last of 64.
 pub fn from_words(negative: bool, high: u64, low: u64, e: u64) -> f64
     requires { ⌜ (0 < high + low) × (e < 4800) ⌝ }
-    ensures { λ r. ⌜ ((v x : ℕ) → 0 < v → Sticky v x (high * 2 ^ 64 + low) → (high ≡ 0 → x ≡ low * v) → r ≡ round binary64 negative (x * 2 ^ e) (v * 2 ^ 2272)) ⌝ }
+    ensures { λ r. ⌜ Rounds negative high low e r ⌝ }
 {
     if high == 0 {
         leading(negative, low, 0, e)

@@ -9,7 +9,8 @@ use lib.Pow.{pow-pos}
 use borrow.Author.Needs.{needs}
 use Rattle.law_rounding.proofs.Sticky.{sticky-le}
 use Rattle.law_rounding.proofs.Sums.{signs-like, signs-unlike}
-use Rattle.fused_align.proofs.Cases.{Rounds, like, more, fewer, none, high-room, some, was-less, was-not, sum-pos, difference-pos, zero-is}
+use Rattle.fused_pack.specs.Rounds.{Rounds}
+use Rattle.fused_align.proofs.Cases.{like, more, fewer, none, high-room, some, was-less, was-not, sum-pos, difference-pos, zero-is}
 use Rattle.fused_align.proofs.aligned.Statement.{statement}
 use Rattle.fused_align.proofs.aligned.Tie as tie
 

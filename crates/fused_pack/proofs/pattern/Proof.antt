@@ -1,6 +1,6 @@
 -- Assumes nothing.
 use mathlib.Core.Path.{_≡_, sym, ap, ap₂, _∙_, subst}
-use Prim.Native.Nat.{ℕ, _+_, _*_, _^_, min}
+use Prim.Native.Nat.{ℕ, _+_, _*_, _^_, _≤_, min}
 use native.Mathlib.Nat.{min-le-right, le-trans, le-of-eq, zero-add}
 use native.Mathlib.Omega.{arith}
 use mathlib.Core.Bool.{Bool, true, false, not, cond}
@@ -9,36 +9,44 @@ use lib.Ieee.{binary64, hid, ones, top, ofBits, nanBits}
 use lib.Ieee.Nearest.{closest}
 use borrow.Author.Needs.{needs}
 use Rattle.law_rounding.proofs.Pattern.{no-nan}
-use Rattle.fused_pack.proofs.Round.{Patterned, nearest-lt}
+use Rattle.fused_pack.specs.Rounds.{Patterned}
+use Rattle.fused_pack.proofs.Round.{nearest-lt}
 use Rattle.fused_pack.proofs.pattern.Statement.{statement}
 use Rattle.fused_pack.proofs.pattern.Tie as tie
 
--- the smaller of the digits with their field, and the infinity's pattern
-capped : (k w n b : ℕ) → n ≡ closest w (2 ^ 11) → b ≡ min (k * hid binary64 + n) (ones binary64 * hid binary64) → b ≡ min (k * hid binary64 + closest w (2 ^ 11)) (ones binary64 * hid binary64)
-capped k w n b e f = f ∙ ap (λ (x : ℕ). min (k * hid binary64 + x) (ones binary64 * hid binary64)) e
+-- the digits with their field, and no more than the infinity's pattern
+abbrev capped : ℕ → ℕ → ℕ
+capped k n = min (k * hid binary64 + n) (ones binary64 * hid binary64)
 
-signed : (t : Bool) (s : Bool) (k w b : ℕ) → s ≡ t → b ≡ min (k * hid binary64 + closest w (2 ^ 11)) (ones binary64 * hid binary64) → ofBits binary64 (cond t (top binary64) 0 + b) ≡ Patterned s w k
-signed t s k w b e f = ap₂ (λ (u : Bool) (x : ℕ). ofBits binary64 (cond u (top binary64) 0 + x)) (sym e) f
+module _ (c : tie.After-smaller) where
+  abbrev start : tie.Start
+  start = c .before .before
+
+  capped-is : c .smaller .result ≡ capped (start .args .k) (closest (start .args .w) (2 ^ 11))
+  capped-is = c .smaller .ensures ∙ ap (capped (start .args .k)) (c .before .nearest .ensures)
+
+  -- so it is no NaN's
+  no-more : c .smaller .result ≤ ones binary64 * hid binary64
+  no-more = le-trans (le-of-eq (c .smaller .ensures)) (le-trans (min-le-right _ _) (lit≤ tt))
+
+  -- with the sign t
+  signed : (t : Bool) → start .args .negative ≡ t
+      → ofBits binary64 (cond t (top binary64) 0 + c .smaller .result) ≡ Patterned (start .args .negative) (start .args .w) (start .args .k)
+  signed t e = ap₂ (λ (u : Bool) (x : ℕ). ofBits binary64 (cond u (top binary64) 0 + x)) (sym e) capped-is
 
 add-smaller : tie.Need-add-smaller
-add-smaller c = let w = c .before .args .w in let n = nearest-lt w (c .before .fits .w .fits) in omega (arith, c .nearest .ensures, n, c .before .pre)
-
-float-from-bits-result : tie.Need-float-from-bits-result
-float-from-bits-result c = no-nan binary64 true (c .before .smaller .result) (le-trans (le-of-eq (c .before .smaller .ensures)) (le-trans (min-le-right _ _) (lit≤ tt)))
+add-smaller c =
+    let start = c .before in
+    let n = nearest-lt (start .args .w) (start .fits .w .fits) in
+    omega (arith, c .nearest .ensures, n, start .pre)
 
 float-from-bits-result-2 : tie.Need-float-from-bits-result-2
-float-from-bits-result-2 c = subst (λ (b : ℕ). T (not (nanBits binary64 b))) (zero-add (c .before .smaller .result)) (no-nan binary64 false (c .before .smaller .result) (le-trans (le-of-eq (c .before .smaller .ensures)) (le-trans (min-le-right _ _) (lit≤ tt))))
-
-returns : tie.Need-returns
-returns c =
-    let a = c .before .before .before .args in
-    signed true (a .negative) (a .k) (a .w) (c .before .smaller .result) (c .if1 .taken) (capped (a .k) (a .w) (c .before .before .nearest .result) (c .before .smaller .result) (c .before .before .nearest .ensures) (c .before .smaller .ensures))
+float-from-bits-result-2 c =
+    let b = c .before .smaller .result in
+    subst (λ (b : ℕ). T (not (nanBits binary64 b))) (zero-add b) (no-nan binary64 false b (no-more (c .before)))
 
 returns-2 : tie.Need-returns-2
-returns-2 c =
-    let a = c .before .before .before .args in
-    ap (ofBits binary64) (sym (zero-add (c .before .smaller .result)))
-    ∙ signed false (a .negative) (a .k) (a .w) (c .before .smaller .result) (c .if1 .left) (capped (a .k) (a .w) (c .before .before .nearest .result) (c .before .smaller .result) (c .before .before .nearest .ensures) (c .before .smaller .ensures))
+returns-2 c = ap (ofBits binary64) (sym (zero-add (c .before .smaller .result))) ∙ signed (c .before) false (c .if1 .left)
 
 pub pattern-spec : {M : Type 1} → statement M
 pattern-spec =
@@ -49,7 +57,7 @@ pattern-spec =
     add-smaller
     (λ c κs. search needs)
     (λ c. search needs)
-    float-from-bits-result
+    (λ c. no-nan binary64 true (c .before .smaller .result) (no-more (c .before)))
     float-from-bits-result-2
-    returns
+    (λ c. signed (c .before) true (c .if1 .taken))
     returns-2)

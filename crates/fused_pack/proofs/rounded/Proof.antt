@@ -7,13 +7,15 @@ use Rattle.fused_pack.proofs.rounded.Tie as tie
 
 returns : tie.Need-returns
 returns c v x p s =
+    let w = c .before .shifted-word in
     let a = c .before .before .before .args in
-    c .pattern .ensures ∙ rounded-low (a .negative) (a .w) (a .g) (c .before .shifted-word .result) v x (c .before .before .if1 .taken) (c .before .shifted-word .ok) (c .before .shifted-word .ensures) p s
+    c .pattern .ensures ∙ rounded-low (a .negative) (a .w) (a .g) (w .result) v x (c .before .before .if1 .taken) (w .ok) (w .ensures) p s
 
 returns-2 : tie.Need-returns-2
 returns-2 c v x p s =
-    let a = c .before .before .args in
-    c .pattern2 .ensures ∙ rounded-high (a .negative) (a .w) (a .g) v x (c .before .if1 .left) (c .before .before .pre .0) (c .before .before .fits .w .fits) p s
+    let start = c .before .before in
+    let a = start .args in
+    c .pattern2 .ensures ∙ rounded-high (a .negative) (a .w) (a .g) v x (c .before .if1 .left) (start .pre .0) (start .fits .w .fits) p s
 
 pub rounded-spec : {M : Type 1} → statement M
 rounded-spec =
