@@ -31,8 +31,11 @@ was-infinite x false e h = sym e
 pub field-lt : (x : Float) → T (fits binary64 x) → finite x ≡ true → field (toBits binary64 x) < ones binary64
 field-lt x fit fine = finite-field binary64 (toBits binary64 x) (held (ap finite (ofBits-toBits binary64 x fit) ∙ fine))
 
-float-value : (x : Float) → T (fits binary64 x) → field (toBits binary64 x) < ones binary64 → HasValue x (leb (top binary64) (toBits binary64 x)) (magnitude (toBits binary64 x)) (2 ^ 1074)
-float-value x fit l = subst (λ (v : Float). HasValue v (leb (top binary64) (toBits binary64 x)) (magnitude (toBits binary64 x)) (2 ^ 1074)) (ofBits-toBits binary64 x fit) (bits-value binary64 (toBits binary64 x) l)
+float-value : (x : Float) → T (fits binary64 x) → field (toBits binary64 x) < ones binary64
+    → HasValue x (leb (top binary64) (toBits binary64 x)) (magnitude (toBits binary64 x)) (2 ^ 1074)
+float-value x fit l =
+    subst (λ (v : Float). HasValue v (leb (top binary64) (toBits binary64 x)) (magnitude (toBits binary64 x)) (2 ^ 1074))
+    (ofBits-toBits binary64 x fit) (bits-value binary64 (toBits binary64 x) l)
 
 sign : Float → Bool
 sign x = leb (top binary64) (toBits binary64 x)
@@ -42,12 +45,16 @@ size x = magnitude (toBits binary64 x)
 
 -- ---- the definition at finite operands, by their bits
 
-pub by-bits : (a b c : Float) → T (fits binary64 a) → T (fits binary64 b) → T (fits binary64 c) → field (toBits binary64 a) < ones binary64 → field (toBits binary64 b) < ones binary64 → field (toBits binary64 c) < ones binary64
+pub by-bits : (a b c : Float) → T (fits binary64 a) → T (fits binary64 b) → T (fits binary64 c) → field (toBits binary64 a) < ones binary64
+    → field (toBits binary64 b) < ones binary64 → field (toBits binary64 c) < ones binary64
     → fused binary64 a b c ≡ summed (toBits binary64 a) (toBits binary64 b) (toBits binary64 c)
 unfolding sign size
-by-bits a b c p q r i j k = fused-values binary64 a b c (sign a) (size a) (sign b) (size b) (sign c) (size c) (2 ^ 1074) (pow-pos 1074) (float-value a p i) (float-value b q j) (float-value c r k)
+by-bits a b c p q r i j k =
+    fused-values binary64 a b c (sign a) (size a) (sign b) (size b) (sign c) (size c) (2 ^ 1074) (pow-pos 1074) (float-value a p i)
+    (float-value b q j) (float-value c r k)
 
-module _ (a b c : Float) (p : T (fits binary64 a)) (q : T (fits binary64 b)) (r : T (fits binary64 c)) (i : finite a ≡ true) (j : finite b ≡ true) (k : finite c ≡ true) where
+module _ (a b c : Float) (p : T (fits binary64 a)) (q : T (fits binary64 b)) (r : T (fits binary64 c)) (i : finite a ≡ true) (j : finite b ≡ true)
+    (k : finite c ≡ true) where
   no-product : size a * size b ≡ 0 → add binary64 (mul binary64 a b) c ≡ fused binary64 a b c
   unfolding sign size
   no-product =

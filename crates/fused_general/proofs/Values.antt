@@ -17,7 +17,8 @@ use Rattle.law_rounding.proofs.Values.{power-add, cross-product, value-scaled, 
 -- ---- finite operands
 
 -- the exact product has the product of the values
-product-value : (x y : Float) (s : Bool) (a c : ℕ) (t : Bool) (b d : ℕ) → HasValue x s a c → HasValue y t b d → HasValue (exactProduct x y) (unlike s t) (a * b) (c * d)
+product-value : (x y : Float) (s : Bool) (a c : ℕ) (t : Bool) (b d : ℕ) → HasValue x s a c → HasValue y t b d
+    → HasValue (exactProduct x y) (unlike s t) (a * b) (c * d)
 unfolding exactProduct
 product-value nan y s a c t b d v w = absurd v
 product-value (inf u) y s a c t b d v w = absurd v
@@ -40,7 +41,8 @@ product-value (fin u m e) (fin r n k) s a c t b d (i, v) (j, w) = (
     middle m n u v d c = simp (mul-assoc, mul-comm, mul-left-comm)
 
 -- all over the same denominator d
-pub fused-values : (f : Format) (x y z : Float) (s : Bool) (a : ℕ) (t : Bool) (b : ℕ) (u : Bool) (c d : ℕ) → 0 < d → HasValue x s a d → HasValue y t b d → HasValue z u c d
+pub fused-values : (f : Format) (x y z : Float) (s : Bool) (a : ℕ) (t : Bool) (b : ℕ) (u : Bool) (c d : ℕ) → 0 < d → HasValue x s a d → HasValue y t b d
+    → HasValue z u c d
     → fused f x y z ≡ sum f (unlike s t) (a * b) u (c * d) (d * d)
 unfolding fused
 fused-values f x y z s a t b u c d p v w k =
@@ -48,7 +50,8 @@ fused-values f x y z s a t b u c d p v w k =
 
 -- ---- a product of zero
 
-pub zero-product : (f : Format) (x y z : Float) (s : Bool) (a : ℕ) (t : Bool) (b : ℕ) (u : Bool) (c d : ℕ) → 0 < d → HasValue x s a d → HasValue y t b d → HasValue z u c d → a * b ≡ 0
+pub zero-product : (f : Format) (x y z : Float) (s : Bool) (a : ℕ) (t : Bool) (b : ℕ) (u : Bool) (c d : ℕ) → 0 < d → HasValue x s a d → HasValue y t b d
+    → HasValue z u c d → a * b ≡ 0
     → add f (mul f x y) z ≡ fused f x y z
 zero-product f x y z s a t b u c d p v w k e =
     ap (λ (m : Float). add f m z) (mul-values f x y s a d t b d p p v w ∙ ap (λ (n : ℕ). round f (unlike s t) n (d * d)) e ∙ round-zero f (unlike s t) (d * d))
@@ -58,7 +61,8 @@ zero-product f x y z s a t b u c d p v w k e =
 
 -- ---- an addend of zero
 
-pub zero-addend : (f : Format) (x y z : Float) (s : Bool) (a : ℕ) (t : Bool) (b : ℕ) (u : Bool) (c d : ℕ) → 0 < d → HasValue x s a d → HasValue y t b d → HasValue z u c d → 0 < a * b → c ≡ 0
+pub zero-addend : (f : Format) (x y z : Float) (s : Bool) (a : ℕ) (t : Bool) (b : ℕ) (u : Bool) (c d : ℕ) → 0 < d → HasValue x s a d → HasValue y t b d
+    → HasValue z u c d → 0 < a * b → c ≡ 0
     → mul f x y ≡ fused f x y z
 zero-addend f x y z s a t b u c d p v w k l e =
     mul-values f x y s a d t b d p p v w

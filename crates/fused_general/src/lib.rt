@@ -1,11 +1,10 @@
 // The fused multiply-add in the general case: a * b + c with one rounding, whatever the operands are.
 ghost use mathlib.Core.Path.{_≡_};
-ghost use Prim.Native.Nat.{_*_, _%_, _^_, _≤_, _<_};
 ghost use mathlib.Core.Bool.{true};
 ghost use lib.Ieee.{binary64};
 ghost use lib.Ieee.Scale as Scale;
 ghost use Rattle.rules.specs.Fused.{fused};
-ghost use Rattle.fused_general.specs.Bits.{magnitude, Nonzero, summed};
+ghost use Rattle.fused_general.specs.Bits.{magnitude, Nonzero, Unpacked, summed};
 use fused_align::rounded_sum;
 use fused_words::HIDDEN;
 use fused_words::SIGN;
@@ -20,7 +19,7 @@ struct Parts {
 // The magnitude of the float that the bits are, with its leading digit at bit 62.
 fn unpacked(bits: u64) -> Parts
     requires { ⌜ Nonzero bits ⌝ }
-    ensures { λ r. ⌜ (r .digits * 2 ^ r .exponent ≡ magnitude bits * 2 ^ 62) × (2 ^ 62 ≤ r .digits) × (r .digits < 2 ^ 63) × (r .digits % 2 ≡ 0) × (r .exponent < 2100) ⌝ }
+    ensures { λ r. ⌜ Unpacked (magnitude bits) (r .digits) (r .exponent) ⌝ }
 {
     let field = bits % SIGN / HIDDEN;
     let low = bits % HIDDEN;

@@ -1,38 +1,48 @@
 -- Assumes nothing.
 use mathlib.Core.Path.{_∙_}
-use Prim.Native.Nat.{_+_, _*_, _^_}
+use mathlib.Core.Bool.{Bool}
+use Prim.Native.Nat.{ℕ, _+_, _*_, _^_}
 use native.Mathlib.Omega.{arith}
 use lib.Dec.{leb}
 use lib.Ieee.{binary64, unlike, top}
 use borrow.Author.Needs.{needs}
-use Rattle.fused_general.specs.Bits.{magnitude}
 use Rattle.fused_general.proofs.Unpack.{product-placed, addend-placed, magnitudes}
 use Rattle.fused_general.proofs.of_bits.Statement.{statement}
 use Rattle.fused_general.proofs.of_bits.Tie as tie
 
+-- behind the product: the three operands unpacked, and where all began
+module _ (p : tie.After-product) where
+  abbrev first : tie.After-unpacked
+  first = p .before .before .before
+
+  abbrev second : tie.After-unpacked2
+  second = p .before .before
+
+  abbrev third : tie.After-unpacked3
+  third = p .before
+
+  abbrev start : tie.Start
+  start = first .before
+
+  abbrev product : ℕ
+  product = p .product .result .high * 2 ^ 64 + p .product .result .low
+
 rounded-sum-requires : tie.Need-rounded-sum-requires
 rounded-sum-requires c κs =
-    let u = c .before .before .before .before .before .before .before .unpacked in
-    let v = c .before .before .before .before .before .before .unpacked2 in
-    let w = c .before .before .before .before .before .unpacked3 in
-    let p = c .before .before .before .before .product in (
-      product-placed (u .result .digits) (v .result .digits) (p .result .high * 2 ^ 64 + p .result .low) (p .ensures) (u .ensures .1) (u .ensures .2) (u .ensures .3) (v .ensures .1) (v .ensures .2) (v .ensures .3),
-      addend-placed (w .result .digits) (w .ensures .1) (w .ensures .2) (w .ensures .3),
-      omega (arith, u .ensures .4, v .ensures .4),
-      omega (arith, w .ensures .4),
-    )
+    let p = c .before .before .before .before in
+    let u = first p .unpacked .ensures in
+    let v = second p .unpacked2 .ensures in
+    let w = third p .unpacked3 .ensures in
+    (product-placed (product p) (p .product .ensures) u v, addend-placed w, omega (arith, u .small, v .small), omega (arith, w .small))
 
 returns : tie.Need-returns
 returns c =
-    let a = c .before .before .before .before .before .before .before .before .before .args in
-    let u = c .before .before .before .before .before .before .before .before .unpacked in
-    let v = c .before .before .before .before .before .before .before .unpacked2 in
-    let w = c .before .before .before .before .before .before .unpacked3 in
-    let p = c .before .before .before .before .before .product in
+    let p = c .before .before .before .before .before in
+    let a = start p .args in
+    let negative : ℕ → Bool = leb (top binary64) in
     c .rounded-sum .ensures
-    ∙ magnitudes (unlike (leb (top binary64) (a .x)) (leb (top binary64) (a .y))) (leb (top binary64) (a .z)) (magnitude (a .x)) (magnitude (a .y)) (magnitude (a .z))
-    (u .result .digits) (u .result .exponent) (v .result .digits) (v .result .exponent) (w .result .digits) (w .result .exponent) (p .result .high * 2 ^ 64 + p .result .low)
-    (p .ensures) (w .ensures .3) (u .ensures .0) (v .ensures .0) (w .ensures .0)
+    ∙ magnitudes (unlike (negative (a .x)) (negative (a .y))) (negative (a .z)) (product p) (p .product .ensures)
+    (first p .unpacked .ensures) (second p .unpacked2 .ensures) (third p .unpacked3 .ensures)
 
 pub of-bits-spec : {M : Type 1} → statement M
 of-bits-spec =

@@ -1,22 +1,25 @@
 -- Assumes nothing.
-use Prim.Native.Nat.{_%_, _^_}
+use Prim.Native.Nat.{ℕ, _%_, _^_, _≤_, _<_}
+use lib.Count.{leadingZeros}
 use native.Mathlib.Omega.{arith}
 use borrow.Author.Needs.{needs}
 use Rattle.fused_general.proofs.Unpack.{zeros-under, zeros-over, low-pos, low-lt, unpacked-low, unpacked-high}
 use Rattle.fused_general.proofs.unpacked.Statement.{statement}
 use Rattle.fused_general.proofs.unpacked.Tie as tie
 
-cast-zeros : tie.Need-cast-zeros
-cast-zeros c = let z = zeros-under (c .before .args .bits % 2 ^ 52) (low-pos (c .before .args .bits) (c .before .pre .1) (c .if1 .taken)) (low-lt (c .before .args .bits)) in omega (arith, z)
+-- where there is no leading digit: the digits below it, which are not all 0, and the zeros before them
+module _ (c : tie.Then1) where
+  abbrev low : ℕ
+  low = c .before .args .bits % 2 ^ 52
 
-sub-t9 : tie.Need-sub-t9
-sub-t9 c = let z = zeros-over (c .before .args .bits % 2 ^ 52) (low-pos (c .before .args .bits) (c .before .pre .1) (c .if1 .taken)) (low-lt (c .before .args .bits)) in omega (arith, z)
+  some : 0 < low
+  some = low-pos (c .before .args .bits) (c .before .pre .1) (c .if1 .taken)
 
-shl-t10 : tie.Need-shl-t10
-shl-t10 c = let z = zeros-under (c .before .args .bits % 2 ^ 52) (low-pos (c .before .args .bits) (c .before .pre .1) (c .if1 .taken)) (low-lt (c .before .args .bits)) in omega (arith, z)
+  under : leadingZeros 64 low < 64
+  under = zeros-under low some (low-lt (c .before .args .bits))
 
-sub-t11 : tie.Need-sub-t11
-sub-t11 c = let z = zeros-under (c .before .args .bits % 2 ^ 52) (low-pos (c .before .args .bits) (c .before .pre .1) (c .if1 .taken)) (low-lt (c .before .args .bits)) in omega (arith, z)
+  over : 2 ≤ leadingZeros 64 low
+  over = zeros-over low some (low-lt (c .before .args .bits))
 
 returns : tie.Need-returns
 returns c = unpacked-low (c .before .args .bits) (c .before .pre .1) (c .if1 .taken)
@@ -27,4 +30,13 @@ returns-2 c = unpacked-high (c .before .args .bits) (c .before .pre .0) (omega (
 pub unpacked-spec : {M : Type 1} → statement M
 unpacked-spec =
     tie.close
-    (tie.spec cast-zeros sub-t9 shl-t10 sub-t11 (λ c. search needs) (λ c. search needs) (λ c. search needs) returns returns-2)
+    (tie.spec
+    (λ c. omega (arith, under c))
+    (λ c. omega (arith, over c))
+    (λ c. omega (arith, under c))
+    (λ c. omega (arith, under c))
+    (λ c. search needs)
+    (λ c. search needs)
+    (λ c. search needs)
+    returns
+    returns-2)
