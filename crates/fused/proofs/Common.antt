@@ -2,7 +2,8 @@
 use mathlib.Core.Path.{_≡_, refl, sym, ap, ap₂, _∙_, subst}
 use mathlib.Core.Logic.{_⊎_, inl, inr}
 use Prim.Native.Nat.{ℕ, _+_, _-_, _*_, _/_, _%_, _^_, _≤_, _<_}
-use native.Mathlib.Nat.{le-trans, le-of-lt, le-add-right, lt-of-le-of-lt, lt-of-lt-of-le, mul-assoc, mod-eq-of-lt, mul-pos, add-zero, sub-zero, mul-mul-mul-comm}
+use native.Mathlib.Nat.{le-trans, le-of-lt, le-add-right, lt-of-le-of-lt, lt-of-lt-of-le, mul-assoc, mod-eq-of-lt, mul-pos, add-zero, sub-zero}
+use native.Mathlib.Nat.{mul-mul-mul-comm}
 use native.Mathlib.Omega.{arith}
 use mathlib.Core.Bool.{Bool, true, false, not, cond, Bool·beq}
 use lib.Dec.{leb, lit≤}
@@ -21,7 +22,8 @@ use Rattle.law_rounding.proofs.Values.{weight-more}
 
 -- The common case: both factors are between 2 ^ -423 and 2 ^ 427, and the addend's last digit is from 0 to 125 places above the product's.
 abbrev pub Common : ℕ → ℕ → ℕ → Type 0
-Common x y z = (600 ≤ field x) × (field x < 1450) × (600 ≤ field y) × (field y < 1450) × (field x + field y ≤ field z + 1075) × (field z + 1075 < field x + field y + 126)
+Common x y z =
+    (600 ≤ field x) × (field x < 1450) × (600 ≤ field y) × (field y < 1450) × (field x + field y ≤ field z + 1075) × (field z + 1075 < field x + field y + 126)
 
 -- ---- the sum of the magnitudes, at the product's exponent
 
@@ -30,7 +32,10 @@ products a b f g m n p q e h =
     ap (λ (k : ℕ). k * 2 ^ 2150) (ap₂ (λ (i j : ℕ). i * j) (sym e) (sym h) ∙ mul-mul-mul-comm a (2 ^ (f - 1)) b (2 ^ (g - 1)))
     ∙ mul-assoc (a * b) (2 ^ (f - 1) * 2 ^ (g - 1)) (2 ^ 2150)
     ∙ ap (λ (k : ℕ). a * b * k)
-    (ap (λ (k : ℕ). k * 2 ^ 2150) (sym (pow-add 2 (f - 1) (g - 1))) ∙ sym (pow-add 2 (f - 1 + (g - 1)) 2150) ∙ ap (λ (k : ℕ). 2 ^ k) (sums f g p q) ∙ pow-add 2 (f + g) 2148)
+    (ap (λ (k : ℕ). k * 2 ^ 2150) (sym (pow-add 2 (f - 1) (g - 1)))
+    ∙ sym (pow-add 2 (f - 1 + (g - 1)) 2150)
+    ∙ ap (λ (k : ℕ). 2 ^ k) (sums f g p q)
+    ∙ pow-add 2 (f + g) 2148)
     ∙ sym (mul-assoc (a * b) (2 ^ (f + g)) (2 ^ 2148))
   where
     sums : (f g : ℕ) → 0 < f → 0 < g → f - 1 + (g - 1) + 2150 ≡ f + g + 2148
@@ -70,13 +75,17 @@ common-nonzero x y z w =
     not-zero b h = omega arith
 
 at-product : (x y z n : ℕ) → Common x y z → field z + 1075 - (field x + field y) ≡ n → summed x y z
-    ≡ Ieee.sum binary64 (unlike (leb (top binary64) x) (leb (top binary64) y)) ((2 ^ 52 + x % 2 ^ 52) * (2 ^ 52 + y % 2 ^ 52) * 2 ^ (field x + field y)) (leb (top binary64) z)
+    ≡ Ieee.sum binary64 (unlike (leb (top binary64) x) (leb (top binary64) y))
+    ((2 ^ 52 + x % 2 ^ 52) * (2 ^ 52 + y % 2 ^ 52) * 2 ^ (field x + field y)) (leb (top binary64) z)
     ((2 ^ 52 + z % 2 ^ 52) * 2 ^ n * 2 ^ (field x + field y)) (2 ^ 2150)
 at-product x y z n w h =
     let k = common-fields x y z w in
-    sum-same binary64 (unlike (leb (top binary64) x) (leb (top binary64) y)) (magnitude x * magnitude y) (leb (top binary64) z) (magnitude z * 2 ^ 1074) (2 ^ 2148)
-    ((2 ^ 52 + x % 2 ^ 52) * (2 ^ 52 + y % 2 ^ 52) * 2 ^ (field x + field y)) ((2 ^ 52 + z % 2 ^ 52) * 2 ^ n * 2 ^ (field x + field y)) (2 ^ 2150) (pow-pos 2148) (pow-pos 2150)
-    (products (2 ^ 52 + x % 2 ^ 52) (2 ^ 52 + y % 2 ^ 52) (field x) (field y) (magnitude x) (magnitude y) (k .0) (k .1) (weight-more binary64 (field x) (x % 2 ^ 52) (k .0)) (weight-more binary64 (field y) (y % 2 ^ 52) (k .1)))
+    sum-same binary64 (unlike (leb (top binary64) x) (leb (top binary64) y)) (magnitude x * magnitude y) (leb (top binary64) z)
+    (magnitude z * 2 ^ 1074) (2 ^ 2148)
+    ((2 ^ 52 + x % 2 ^ 52) * (2 ^ 52 + y % 2 ^ 52) * 2 ^ (field x + field y)) ((2 ^ 52 + z % 2 ^ 52) * 2 ^ n * 2 ^ (field x + field y)) (2 ^ 2150)
+    (pow-pos 2148) (pow-pos 2150)
+    (products (2 ^ 52 + x % 2 ^ 52) (2 ^ 52 + y % 2 ^ 52) (field x) (field y) (magnitude x) (magnitude y) (k .0) (k .1)
+    (weight-more binary64 (field x) (x % 2 ^ 52) (k .0)) (weight-more binary64 (field y) (y % 2 ^ 52) (k .1)))
     (subst (λ (i : ℕ). magnitude z * 2 ^ 1074 * 2 ^ 2150 ≡ (2 ^ 52 + z % 2 ^ 52) * 2 ^ i * 2 ^ (field x + field y) * 2 ^ 2148) h
     (addends (2 ^ 52 + z % 2 ^ 52) (field z) (field x + field y) (magnitude z) (k .2) (w .4) (weight-more binary64 (field z) (z % 2 ^ 52) (k .2))))
 
@@ -86,7 +95,7 @@ module _ (s : Bool) (p c h l e : ℕ) (r : Float) (l-lt : l < 2 ^ 64) (k : Conve
   came-like : h * 2 ^ 64 + l ≡ 2 ^ 115 + p + c → r ≡ Ieee.sum binary64 s (p * 2 ^ e) s (c * 2 ^ e) (2 ^ 2150)
   came-like y = elim far [
     | inl g ↦
-        k .0 g ∙ ap (λ (n : ℕ). round binary64 s (n * 2 ^ e) (2 ^ 2150)) (off h l p c y g) ∙ sym (like-times binary64 s p c (2 ^ e) (2 ^ 2150))
+        k .above g ∙ ap (λ (n : ℕ). round binary64 s (n * 2 ^ e) (2 ^ 2150)) (off h l p c y g) ∙ sym (like-times binary64 s p c (2 ^ e) (2 ^ 2150))
     | inr g ↦ absurd (no h l p c l-lt y g)
   ]
     where
@@ -100,10 +109,12 @@ module _ (s : Bool) (p c h l e : ℕ) (r : Float) (l-lt : l < 2 ^ 64) (k : Conve
   came-unlike i y = elim far [
     | inl g ↦
         let m = more h l p c i y g in
-        k .0 g ∙ ap (λ (n : ℕ). round binary64 s (n * 2 ^ e) (2 ^ 2150)) (m .0) ∙ sym (more-times binary64 s p c (2 ^ e) (2 ^ 2150) (pow-pos e) (m .1))
+        k .above g ∙ ap (λ (n : ℕ). round binary64 s (n * 2 ^ e) (2 ^ 2150)) (m .0) ∙ sym (more-times binary64 s p c (2 ^ e) (2 ^ 2150) (pow-pos e) (m .1))
     | inr g ↦
         let m = fewer h l p c l-lt i y g in
-        k .1 g ∙ ap (λ (n : ℕ). round binary64 (not s) (n * 2 ^ e) (2 ^ 2150)) (m .0) ∙ sym (less-times binary64 s p c (2 ^ e) (2 ^ 2150) (pow-pos e) (m .1))
+        k .below g
+        ∙ ap (λ (n : ℕ). round binary64 (not s) (n * 2 ^ e) (2 ^ 2150)) (m .0)
+        ∙ sym (less-times binary64 s p c (2 ^ e) (2 ^ 2150) (pow-pos e) (m .1))
   ]
     where
       more : (h l p c : ℕ) → c ≤ 2 ^ 115 + p → h * 2 ^ 64 + l ≡ 2 ^ 115 + p - c → 2 ^ 51 + 4 ≤ h → ((h - 2 ^ 51) * 2 ^ 64 + l ≡ p - c) × (c < p)
@@ -112,10 +123,12 @@ module _ (s : Bool) (p c h l e : ℕ) (r : Float) (l-lt : l < 2 ^ 64) (k : Conve
       fewer : (h l p c : ℕ) → l < 2 ^ 64 → c ≤ 2 ^ 115 + p → h * 2 ^ 64 + l ≡ 2 ^ 115 + p - c → h + 4 ≤ 2 ^ 51 → ((2 ^ 51 - h) * 2 ^ 64 - l ≡ c - p) × (p < c)
       fewer h l p c j i y g = (omega arith, omega arith)
 
-  pub came : (t : Bool) → c ≤ 2 ^ 115 + p → h * 2 ^ 64 + l ≡ cond (Bool·beq s t) (2 ^ 115 + p + c) (2 ^ 115 + p - c) → r ≡ Ieee.sum binary64 s (p * 2 ^ e) t (c * 2 ^ e) (2 ^ 2150)
+  pub came : (t : Bool) → c ≤ 2 ^ 115 + p → h * 2 ^ 64 + l ≡ cond (Bool·beq s t) (2 ^ 115 + p + c) (2 ^ 115 + p - c)
+      → r ≡ Ieee.sum binary64 s (p * 2 ^ e) t (c * 2 ^ e) (2 ^ 2150)
   came t i y = go (Bool·beq s t) refl y
     where
-      go : (b : Bool) → Bool·beq s t ≡ b → h * 2 ^ 64 + l ≡ cond b (2 ^ 115 + p + c) (2 ^ 115 + p - c) → r ≡ Ieee.sum binary64 s (p * 2 ^ e) t (c * 2 ^ e) (2 ^ 2150)
+      go : (b : Bool) → Bool·beq s t ≡ b → h * 2 ^ 64 + l ≡ cond b (2 ^ 115 + p + c) (2 ^ 115 + p - c)
+          → r ≡ Ieee.sum binary64 s (p * 2 ^ e) t (c * 2 ^ e) (2 ^ 2150)
       go true q y = subst (λ (u : Bool). r ≡ Ieee.sum binary64 s (p * 2 ^ e) u (c * 2 ^ e) (2 ^ 2150)) (sym (signs-like s t q)) (came-like y)
       go false q y = subst (λ (u : Bool). r ≡ Ieee.sum binary64 s (p * 2 ^ e) u (c * 2 ^ e) (2 ^ 2150)) (sym (signs-unlike s t q)) (came-unlike i y)
 
@@ -125,7 +138,8 @@ within a b r l w k =
     let e : r + b ≡ a = sym (mod-eq-of-lt (omega (arith, k, l))) ∙ w in
     (omega (arith, e), omega (arith, e, k), omega (arith, e))
 
-pub is-common : (x y z r : ℕ) → (600 ≤ field x) × (field x < 1450) × (600 ≤ field y) × (field y < 1450) × (r < 126) → (r + (field x + field y)) % 2 ^ 64 ≡ field z + 1075
+pub is-common : (x y z r : ℕ) → (600 ≤ field x) × (field x < 1450) × (600 ≤ field y) × (field y < 1450) × (r < 126)
+    → (r + (field x + field y)) % 2 ^ 64 ≡ field z + 1075
     → Common x y z × (field z + 1075 - (field x + field y) ≡ r)
 is-common x y z r (a, b, c, d, k) w =
     let i = within (field z + 1075) (field x + field y) r (under (field x) (field y) b d) w k in
@@ -149,7 +163,8 @@ unshifted x y k e s = go (subst (λ (i : ℕ). Sticky (2 ^ i) x y) e s)
 
 -- the sum of the sticky product is that of the product: either nothing was shifted out, or the addend outweighs it
 product-seen : (s t : Bool) (p q m n e : ℕ) → 1200 ≤ e → p < 2 ^ 106 → 2 ^ 52 ≤ m → Sticky (2 ^ (n - 62)) p q
-    → Ieee.sum binary64 s (q * 2 ^ (e + (n - 62))) t (m * 2 ^ (n - (n - 62)) * 2 ^ (e + (n - 62))) (2 ^ 2150) ≡ Ieee.sum binary64 s (p * 2 ^ e) t (m * 2 ^ n * 2 ^ e) (2 ^ 2150)
+    → Ieee.sum binary64 s (q * 2 ^ (e + (n - 62))) t (m * 2 ^ (n - (n - 62)) * 2 ^ (e + (n - 62))) (2 ^ 2150) ≡ Ieee.sum binary64 s (p * 2 ^ e) t
+    (m * 2 ^ n * 2 ^ e) (2 ^ 2150)
 product-seen s t p q m n e g′ i j k = elim (less-or-not 62 n) [
   | inr g ↦
       let z : n - 62 ≡ 0 = omega arith in
@@ -159,10 +174,14 @@ product-seen s t p q m n e g′ i j k = elim (less-or-not 62 n) [
       let f = n - 62 in
       let d : n - f ≡ 62 = omega arith in
       ap (λ (b : ℕ). Ieee.sum binary64 s (q * 2 ^ (e + f)) t (m * 2 ^ b * 2 ^ (e + f)) (2 ^ 2150)) d
-      ∙ sum-sticky binary64 s t (2 ^ f) p q (m * 2 ^ 62) (e + f) 2150 (pow-pos f) k (omega arith) (outweighs m q j (lt-of-le-of-lt (sticky-le (2 ^ f) p q (pow-pos f) k) i)) (omega arith)
-      ∙ sum-same binary64 s (p * 2 ^ (e + f)) t (m * 2 ^ 62 * 2 ^ f * 2 ^ (e + f)) (2 ^ f * 2 ^ 2150) (p * 2 ^ e) (m * 2 ^ n * 2 ^ e) (2 ^ 2150) (mul-pos (pow-pos f) (pow-pos 2150)) (pow-pos 2150)
+      ∙ sum-sticky binary64 s t (2 ^ f) p q (m * 2 ^ 62) (e + f) 2150 (pow-pos f) k (omega arith)
+      (outweighs m q j (lt-of-le-of-lt (sticky-le (2 ^ f) p q (pow-pos f) k) i)) (omega arith)
+      ∙ sum-same binary64 s (p * 2 ^ (e + f)) t (m * 2 ^ 62 * 2 ^ f * 2 ^ (e + f)) (2 ^ f * 2 ^ 2150) (p * 2 ^ e) (m * 2 ^ n * 2 ^ e) (2 ^ 2150)
+      (mul-pos (pow-pos f) (pow-pos 2150)) (pow-pos 2150)
       (shift-back p e f)
-      (ap (λ (a : ℕ). a * 2 ^ (e + f) * 2 ^ 2150) (mul-assoc m (2 ^ 62) (2 ^ f) ∙ ap (λ (a : ℕ). m * a) (sym (pow-add 2 62 f) ∙ ap (λ (a : ℕ). 2 ^ a) (joined n l))) ∙ shift-back (m * 2 ^ n) e f)
+      (ap (λ (a : ℕ). a * 2 ^ (e + f) * 2 ^ 2150)
+      (mul-assoc m (2 ^ 62) (2 ^ f) ∙ ap (λ (a : ℕ). m * a) (sym (pow-add 2 62 f) ∙ ap (λ (a : ℕ). 2 ^ a) (joined n l)))
+      ∙ shift-back (m * 2 ^ n) e f)
 ]
   where
     outweighs : (m q : ℕ) → 2 ^ 52 ≤ m → q < 2 ^ 106 → 2 ^ 54 + q ≤ m * 2 ^ 62
@@ -186,7 +205,8 @@ common-sum x y z n h l q r w e m k v y′ t f =
     let p = (2 ^ 52 + x % 2 ^ 52) * (2 ^ 52 + y % 2 ^ 52) in
     let d = 2 ^ 52 + z % 2 ^ 52 in
     let c = d * 2 ^ (n - (n - 62)) in
-    came s q c h l (field x + field y + (n - 62)) r k t f (leb (2 ^ 63) z) (le-trans (le-of-lt (addend-lt z (n - (n - 62)) (excess-room n m .0))) (le-add-right (2 ^ 115) q)) y′
+    came s q c h l (field x + field y + (n - 62)) r k t f (leb (2 ^ 63) z)
+    (le-trans (le-of-lt (addend-lt z (n - (n - 62)) (excess-room n m .0))) (le-add-right (2 ^ 115) q)) y′
     ∙ product-seen s (leb (2 ^ 63) z) p q d n (field x + field y) (common-fields x y z w .4) (product-lt x y) (le-add-right (2 ^ 52) (z % 2 ^ 52)) v
     ∙ sym (at-product x y z n w e)
 

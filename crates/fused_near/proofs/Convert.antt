@@ -42,7 +42,9 @@ lifted-is m n h = ap (λ (k : ℕ). k * 2 ^ 64 + m * 2 ^ n % 2 ^ 64) high ∙ di
     high =
         shr-shr m 1 (63 - n)
         ∙ ap (λ (k : ℕ). m / 2 ^ k) (one-more n h)
-        ∙ sym (div-same (m * 2 ^ n) (2 ^ 64) m (2 ^ (64 - n)) (pow-pos 64) (pow-pos (64 - n)) (mul-assoc m (2 ^ n) (2 ^ (64 - n)) ∙ ap (λ (k : ℕ). m * k) (sym (pow-add 2 n (64 - n)) ∙ ap (λ (k : ℕ). 2 ^ k) (whole n h))))
+        ∙ sym
+        (div-same (m * 2 ^ n) (2 ^ 64) m (2 ^ (64 - n)) (pow-pos 64) (pow-pos (64 - n))
+        (mul-assoc m (2 ^ n) (2 ^ (64 - n)) ∙ ap (λ (k : ℕ). m * k) (sym (pow-add 2 n (64 - n)) ∙ ap (λ (k : ℕ). 2 ^ k) (whole n h))))
 
 -- ---- `power`
 
@@ -58,12 +60,14 @@ module _ (k : ℕ) (p : 0 < k) (q : k < 2047) where
 
   pub power-negative : HasValue (ofBits binary64 (2 ^ 63 + k * 2 ^ 52)) true (2 ^ (k + 51)) (2 ^ 1074)
   power-negative =
-      subst (λ (s : Bool). HasValue (ofBits binary64 (2 ^ 63 + k * 2 ^ 52)) s (2 ^ (k + 51)) (2 ^ 1074)) (is-true (leb (2 ^ 63) (2 ^ 63 + k * 2 ^ 52)) (le→leb (2 ^ 63) (2 ^ 63 + k * 2 ^ 52) (le-add-right (2 ^ 63) (k * 2 ^ 52))))
+      subst (λ (s : Bool). HasValue (ofBits binary64 (2 ^ 63 + k * 2 ^ 52)) s (2 ^ (k + 51)) (2 ^ 1074))
+      (is-true (leb (2 ^ 63) (2 ^ 63 + k * 2 ^ 52)) (le→leb (2 ^ 63) (2 ^ 63 + k * 2 ^ 52) (le-add-right (2 ^ 63) (k * 2 ^ 52))))
       (pattern-value (2 ^ 63 + k * 2 ^ 52) (omega arith) (omega arith))
 
   pub power-positive : HasValue (ofBits binary64 (k * 2 ^ 52)) false (2 ^ (k + 51)) (2 ^ 1074)
   power-positive =
-      subst (λ (s : Bool). HasValue (ofBits binary64 (k * 2 ^ 52)) s (2 ^ (k + 51)) (2 ^ 1074)) (is-false (leb (2 ^ 63) (k * 2 ^ 52)) (lt→nleb (2 ^ 63) (k * 2 ^ 52) (omega arith)))
+      subst (λ (s : Bool). HasValue (ofBits binary64 (k * 2 ^ 52)) s (2 ^ (k + 51)) (2 ^ 1074))
+      (is-false (leb (2 ^ 63) (k * 2 ^ 52)) (lt→nleb (2 ^ 63) (k * 2 ^ 52) (omega arith)))
       (pattern-value (k * 2 ^ 52) (omega arith) (omega arith))
 
 -- ---- `unbiased`
@@ -86,21 +90,28 @@ module _ (h : ℕ) (h-lt : h < 2 ^ 53) where
   ]
 
   pub difference-fits : SFits w64 (toZ w64 h -ℤ pos (2 ^ 51))
-  difference-fits = subst (SFits w64) (sym number) (by-sign (SFits w64) (λ n l. record { sfits = lt-of-lt-of-le l (lit≤ tt) }) (λ n l. record { sfits = lt-of-lt-of-le l (lit≤ tt) }))
+  difference-fits =
+      subst (SFits w64) (sym number)
+      (by-sign (SFits w64) (λ n l. record { sfits = lt-of-lt-of-le l (lit≤ tt) }) (λ n l. record { sfits = lt-of-lt-of-le l (lit≤ tt) }))
 
   as-number : toZ w64 (ofZ w64 (toZ w64 h -ℤ pos (2 ^ 51))) ≡ subℕ h (2 ^ 51)
   as-number = toZ-ofZ difference-fits ∙ number
 
   pub exact-cast : T (inFloat binary64 (toZ w64 (ofZ w64 (toZ w64 h -ℤ pos (2 ^ 51)))))
-  exact-cast = subst (λ (z : ℤ). T (inFloat binary64 z)) (sym as-number) (unfold inFloat in by-sign (λ (z : ℤ). T (inFloat binary64 z)) (λ n l. le→leb n (2 ^ 53) (le-of-lt l)) (λ n l. lt→ltb n (2 ^ 53) l))
+  exact-cast =
+      subst (λ (z : ℤ). T (inFloat binary64 z)) (sym as-number)
+      (unfold inFloat in by-sign (λ (z : ℤ). T (inFloat binary64 z)) (λ n l. le→leb n (2 ^ 53) (le-of-lt l)) (λ n l. lt→ltb n (2 ^ 53) l))
 
   pub unbiased-above : 2 ^ 51 < h → HasValue (ofInt binary64 (toZ w64 (ofZ w64 (toZ w64 h -ℤ pos (2 ^ 51))))) false (h - 2 ^ 51) 1
-  unbiased-above l = subst (λ (z : ℤ). HasValue (ofInt binary64 z) false (h - 2 ^ 51) 1) (sym (as-number ∙ above (le-of-lt l))) (unfold ofInt in round-whole binary64 false (h - 2 ^ 51) (omega arith))
+  unbiased-above l =
+      subst (λ (z : ℤ). HasValue (ofInt binary64 z) false (h - 2 ^ 51) 1) (sym (as-number ∙ above (le-of-lt l)))
+      (unfold ofInt in round-whole binary64 false (h - 2 ^ 51) (omega arith))
 
   pub unbiased-below : h < 2 ^ 51 → HasValue (ofInt binary64 (toZ w64 (ofZ w64 (toZ w64 h -ℤ pos (2 ^ 51))))) true (2 ^ 51 - h) 1
   unbiased-below l =
       subst (λ (z : ℤ). HasValue (ofInt binary64 z) true (2 ^ 51 - h) 1) (sym (as-number ∙ below l))
-      (subst (λ (n : ℕ). HasValue (ofInt binary64 (negsuc (2 ^ 51 - suc h))) true n 1) (one-more h l) (unfold ofInt in round-whole binary64 true (suc (2 ^ 51 - suc h)) (omega arith)))
+      (subst (λ (n : ℕ). HasValue (ofInt binary64 (negsuc (2 ^ 51 - suc h))) true n 1) (one-more h l)
+      (unfold ofInt in round-whole binary64 true (suc (2 ^ 51 - suc h)) (omega arith)))
     where
       one-more : (h : ℕ) → h < 2 ^ 51 → suc (2 ^ 51 - suc h) ≡ 2 ^ 51 - h
       one-more h l = omega arith
@@ -124,7 +135,8 @@ low-short l j h m = elim (eq-zero-or-pos (l % 2048)) [
 low-value : (j : ℕ) → j < 2 ^ 53 → HasValue (ofInt binary64 (pos j)) false j 1
 low-value j l = unfold ofInt in round-whole binary64 false j (le-of-lt l)
 
-module _ (s : Bool) (h l j e : ℕ) (u p q : Float) (h-lt : h < 2 ^ 53) (h-ge : 4 ≤ h) (j-lt : j < 2 ^ 53) (t : Sticky (2 ^ 11) l j) (e-ge : 1200 ≤ e) (e-lt : e < 3000)
+module _ (s : Bool) (h l j e : ℕ) (u p q : Float) (h-lt : h < 2 ^ 53) (h-ge : 4 ≤ h) (j-lt : j < 2 ^ 53) (t : Sticky (2 ^ 11) l j) (e-ge : 1200 ≤ e)
+    (e-lt : e < 3000)
     (pv : HasValue p s (2 ^ (e - 1063 + 51)) (2 ^ 1074)) (qv : HasValue q s (2 ^ (e - 1116 + 51)) (2 ^ 1074)) where
   -- both products are exact
   in-range : (n i : ℕ) → n < 2 ^ 53 → i < 2000 → n * 2 ^ i < 2 ^ 2098
@@ -174,20 +186,26 @@ module _ (s : Bool) (h l j e : ℕ) (u p q : Float) (h-lt : h < 2 ^ 53) (h-ge : 
   placed : h * 2 ^ 53 * 2 ^ 11 ≡ h * 2 ^ 64
   placed = mul-assoc h (2 ^ 53) (2 ^ 11)
 
-  pub converted-above : HasValue u false h 1 → add binary64 (mul binary64 u p) (mul binary64 (ofInt binary64 (pos j)) q) ≡ round binary64 s ((h * 2 ^ 64 + l) * 2 ^ e) (2 ^ 2150)
+  pub converted-above : HasValue u false h 1
+      → add binary64 (mul binary64 u p) (mul binary64 (ofInt binary64 (pos j)) q) ≡ round binary64 s ((h * 2 ^ 64 + l) * 2 ^ e) (2 ^ 2150)
   converted-above v =
-      add-values binary64 (mul binary64 u p) (mul binary64 (ofInt binary64 (pos j)) q) s (h * 2 ^ 53 * 2 ^ (e - 1065)) s (j * 2 ^ (e - 1065)) (2 ^ 1074) (pow-pos 1074)
+      add-values binary64 (mul binary64 u p) (mul binary64 (ofInt binary64 (pos j)) q) s (h * 2 ^ 53 * 2 ^ (e - 1065)) s (j * 2 ^ (e - 1065))
+      (2 ^ 1074) (pow-pos 1074)
       (subst (λ (r : Bool). HasValue (mul binary64 u p) r (h * 2 ^ 53 * 2 ^ (e - 1065)) (2 ^ 1074)) (plain s) (high-value false v)) low-product
       ∙ like-times binary64 s (h * 2 ^ 53) j (2 ^ (e - 1065)) (2 ^ 1074)
-      ∙ seen s (h * 2 ^ 64 + l) (h * 2 ^ 53 + j) (subst (λ (n : ℕ). Sticky (2 ^ 11) (n + l) (h * 2 ^ 53 + j)) placed (sticky-add (2 ^ 11) (h * 2 ^ 53) l j even t)) (omega arith)
+      ∙ seen s (h * 2 ^ 64 + l) (h * 2 ^ 53 + j)
+      (subst (λ (n : ℕ). Sticky (2 ^ 11) (n + l) (h * 2 ^ 53 + j)) placed (sticky-add (2 ^ 11) (h * 2 ^ 53) l j even t)) (omega arith)
 
-  pub converted-below : HasValue u true h 1 → add binary64 (mul binary64 u p) (mul binary64 (ofInt binary64 (pos j)) q) ≡ round binary64 (not s) ((h * 2 ^ 64 - l) * 2 ^ e) (2 ^ 2150)
+  pub converted-below : HasValue u true h 1
+      → add binary64 (mul binary64 u p) (mul binary64 (ofInt binary64 (pos j)) q) ≡ round binary64 (not s) ((h * 2 ^ 64 - l) * 2 ^ e) (2 ^ 2150)
   converted-below v =
-      add-values binary64 (mul binary64 u p) (mul binary64 (ofInt binary64 (pos j)) q) (not s) (h * 2 ^ 53 * 2 ^ (e - 1065)) s (j * 2 ^ (e - 1065)) (2 ^ 1074) (pow-pos 1074)
+      add-values binary64 (mul binary64 u p) (mul binary64 (ofInt binary64 (pos j)) q) (not s) (h * 2 ^ 53 * 2 ^ (e - 1065)) s (j * 2 ^ (e - 1065))
+      (2 ^ 1074) (pow-pos 1074)
       (subst (λ (r : Bool). HasValue (mul binary64 u p) r (h * 2 ^ 53 * 2 ^ (e - 1065)) (2 ^ 1074)) (turned s) (high-value true v)) low-product
       ∙ ap (λ (r : Bool). Ieee.sum binary64 (not s) (h * 2 ^ 53 * 2 ^ (e - 1065)) r (j * 2 ^ (e - 1065)) (2 ^ 1074)) (sym (not-not s))
       ∙ more-times binary64 (not s) (h * 2 ^ 53) j (2 ^ (e - 1065)) (2 ^ 1074) (pow-pos (e - 1065)) (omega arith)
-      ∙ seen (not s) (h * 2 ^ 64 - l) (h * 2 ^ 53 - j) (subst (λ (n : ℕ). Sticky (2 ^ 11) (n - l) (h * 2 ^ 53 - j)) placed (sticky-from (2 ^ 11) (h * 2 ^ 53) l j even (omega arith) t)) (omega arith)
+      ∙ seen (not s) (h * 2 ^ 64 - l) (h * 2 ^ 53 - j)
+      (subst (λ (n : ℕ). Sticky (2 ^ 11) (n - l) (h * 2 ^ 53 - j)) placed (sticky-from (2 ^ 11) (h * 2 ^ 53) l j even (omega arith) t)) (omega arith)
     where
       turned : (s : Bool) → unlike true s ≡ not s
       turned true = refl

@@ -7,7 +7,8 @@ use mathlib.Core.Bool.{Bool, true, false, cond}
 use lib.Pow.{pow-mono, shl-lt}
 use Rattle.fused_words.proofs.Carry.{mul-lt-pow}
 
-pub picked : (b : Bool) (sh sl dh dl p q h l : ℕ) → h ≡ cond b sh dh → l ≡ cond b sl dl → sh * 2 ^ 64 + sl ≡ p → dh * 2 ^ 64 + dl ≡ q → sl < 2 ^ 64 → dl < 2 ^ 64 → (h * 2 ^ 64 + l ≡ cond b p q) × (l < 2 ^ 64)
+pub picked : (b : Bool) (sh sl dh dl p q h l : ℕ) → h ≡ cond b sh dh → l ≡ cond b sl dl → sh * 2 ^ 64 + sl ≡ p → dh * 2 ^ 64 + dl ≡ q → sl < 2 ^ 64
+    → dl < 2 ^ 64 → (h * 2 ^ 64 + l ≡ cond b p q) × (l < 2 ^ 64)
 picked true sh sl dh dl p q h l e f u v i j = (ap₂ (λ (a b : ℕ). a * 2 ^ 64 + b) e f ∙ u, subst (λ (a : ℕ). a < 2 ^ 64) (sym f) i)
 picked false sh sl dh dl p q h l e f u v i j = (ap₂ (λ (a b : ℕ). a * 2 ^ 64 + b) e f ∙ v, subst (λ (a : ℕ). a < 2 ^ 64) (sym f) j)
 
@@ -30,7 +31,8 @@ biased-lt true p c y i j e = omega arith
 biased-lt false p c y i j e = omega arith
 
 -- the biased sum, by the numbers and not by their words
-pub bias-value : (b : Bool) (ph pl ch cl p c y : ℕ) → ph * 2 ^ 64 + pl ≡ p → ch * 2 ^ 64 + cl ≡ c → y ≡ cond b ((2 ^ 51 + ph) * 2 ^ 64 + pl + (ch * 2 ^ 64 + cl)) ((2 ^ 51 + ph) * 2 ^ 64 + pl - (ch * 2 ^ 64 + cl))
+pub bias-value : (b : Bool) (ph pl ch cl p c y : ℕ) → ph * 2 ^ 64 + pl ≡ p → ch * 2 ^ 64 + cl ≡ c
+    → y ≡ cond b ((2 ^ 51 + ph) * 2 ^ 64 + pl + (ch * 2 ^ 64 + cl)) ((2 ^ 51 + ph) * 2 ^ 64 + pl - (ch * 2 ^ 64 + cl))
     → y ≡ cond b (2 ^ 115 + p + c) (2 ^ 115 + p - c)
 bias-value true ph pl ch cl p c y e f g = omega arith
 bias-value false ph pl ch cl p c y e f g = omega arith

@@ -48,7 +48,8 @@ fn power(negative: bool, field: u64) -> f64
 // high - 2^51.
 fn unbiased(high: u64) -> f64
     requires { ⌜ high < 2 ^ 53 ⌝ }
-    ensures { λ r. ⌜ (2 ^ 51 < high → HasValue r false (high - 2 ^ 51) 1) × (high < 2 ^ 51 → HasValue r true (2 ^ 51 - high) 1) ⌝ }
+    ensures { λ r. ⌜ (2 ^ 51 < high → HasValue r false (high - 2 ^ 51) 1)
+        × (high < 2 ^ 51 → HasValue r true (2 ^ 51 - high) 1) ⌝ }
 {
     (high as i64 - 0x8_0000_0000_0000) as f64
 }
@@ -83,7 +84,8 @@ fn pick(first: bool, a: u64, b: u64) -> u64
 // 2^115 + p + c, or 2^115 + p - c. Both are worked out, since which is wanted is hard to foresee.
 fn biased(like: bool, ph: u64, pl: u64, ch: u64, cl: u64) -> Words
     requires { ⌜ (ph < 2 ^ 50) × (ch < 2 ^ 51) ⌝ }
-    ensures { λ r. ⌜ (value r ≡ cond like ((2 ^ 51 + ph) * 2 ^ 64 + pl + (ch * 2 ^ 64 + cl)) ((2 ^ 51 + ph) * 2 ^ 64 + pl - (ch * 2 ^ 64 + cl))) × (r .low < 2 ^ 64) ⌝ }
+    ensures { λ r. ⌜ (value r ≡ cond like ((2 ^ 51 + ph) * 2 ^ 64 + pl + (ch * 2 ^ 64 + cl)) ((2 ^ 51 + ph) * 2 ^ 64 + pl - (ch * 2 ^ 64 + cl)))
+        × (r .low < 2 ^ 64) ⌝ }
 {
     let high = BIAS + ph;
     let s = sum(high, pl, ch, cl);
@@ -111,7 +113,9 @@ pub fn long(high: u64) -> bool
 // addend's.
 pub fn biased_sum(like: bool, x: u64, y: u64, z: u64, n: u64, far: u64) -> Words
     requires { ⌜ n < 63 ⌝ }
-    ensures { λ r. ⌜ ((p : ℕ) × Sticky (2 ^ far) ((2 ^ 52 + x % 2 ^ 52) * (2 ^ 52 + y % 2 ^ 52)) p × (value r ≡ biasedSum like p z n)) × (r .low < 2 ^ 64) × (r .high < 2 ^ 53) ⌝ }
+    ensures { λ r. ⌜ ((p : ℕ) × Sticky (2 ^ far) ((2 ^ 52 + x % 2 ^ 52) * (2 ^ 52 + y % 2 ^ 52)) p × (value r ≡ biasedSum like p z n))
+        × (r .low < 2 ^ 64)
+        × (r .high < 2 ^ 53) ⌝ }
 {
     let p = product(HIDDEN + x % HIDDEN, HIDDEN + y % HIDDEN);
     let s = shifted(p.high, p.low, far);
