@@ -1,4 +1,5 @@
--- A query's number, by the questions asked before the lookup and by the lookup's answer; what each of the four buffers then is; and what the evaluation may rely on.
+-- A query's number, by the questions asked before the lookup and by the lookup's answer; what each of the four buffers then is; and what the evaluation may
+-- rely on.
 -- Assumes nothing.
 use mathlib.Core.Path.{_≡_, ap, _∙_}
 use mathlib.Core.Bool.{true, false, cond}
@@ -85,4 +86,6 @@ pub derivative-at : (i : QueryInput) (segment : ℕ) (tau : SegmentUnits) → lo
 unfolding derivative derivativeAt lookupSays
 derivative-at i segment tau e k =
     let p = i .path in
-    ap (λ (found : LookupSays). listed (p .axes) (λ axis. perUnitOfS (p .«inv_ds») k (evalPoly (p .order) (segmentOf p (i .coefficients) axis (found .segment)) (found .value) k))) e
+    ap
+    (λ (found : LookupSays). listed (p .axes)
+    (λ axis. perUnitOfS (p .«inv_ds») k (evalPoly (p .order) (segmentOf p (i .coefficients) axis (found .segment)) (found .value) k))) e

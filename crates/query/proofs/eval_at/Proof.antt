@@ -49,8 +49,14 @@ segment c = c .segment .given .0 .0
 abbrev tau : tie.After-segment → SegmentUnits
 tau c = c .segment .given .0 .1 .0
 
+abbrev lent : tie.After-eval-axes-arg4 → tie.After-segment
+lent c = c .before .before .before .before .before
+
+abbrev asked-yes : tie.After-segment → tie.Else1
+asked-yes c = c .before .before .before
+
 abbrev asked-at : tie.After-segment → Place
-asked-at c = c .before .before .before .before
+asked-at c = asked-yes c .before
 
 found : (c : tie.After-segment) → let i = given (asked-at c) in lookupSays (lookup (i .path) (i .s)) ≡ lookupSays (At (segment c) (tau c))
 found c = sym (c .before .before .segment-tau .ensures) ∙ ap lookupSays (c .segment .given .1)
@@ -70,19 +76,13 @@ returns c =
     let p = c .before in
     as-it-was p (c .if1 .taken) (no-number (given p) (lengths p) (λ e. c .if1 .taken (answer p ∙ e)) ∙ sym (answer p))
 
-segment-tau-requires : tie.Need-segment-tau-requires
-segment-tau-requires c κs = findable (given (c .before)) (lengths (c .before)) (said-yes c)
-
-enum-told : tie.Need-enum-told
-enum-told c = search needs
-
 eval-axes-requires : tie.Need-eval-axes-requires
 unfolding lookupSays
 eval-axes-requires c κs =
-    let f = c .before .before .before .before .before in
+    let f = lent c in
     let p = asked-at f in
     let i = given p in
-    let e = said-yes (f .before .before .before) in
+    let e = said-yes (asked-yes f) in
     let l = segment-known (i .path) (i .s) (findable i (lengths p) e) (inside f) in
     evaluable i (lengths p) e (segment f) (subst (λ (n : ℕ). n < i .path .segments) (ap (λ (says : LookupSays). says .segment) (found f)) l)
 
@@ -92,23 +92,26 @@ returns-2 c =
     let l = c .before .before in
     let p = l .before .before in
     let a = start p .args in
-    let says : lookupSays (lookup (a .path) (a .s)) .number ≡ 305 = ap (λ (says : LookupSays). says .number) (sym (l .segment-tau .ensures) ∙ ap lookupSays (c .enum-told .given .1)) in
+    let says : lookupSays (lookup (a .path) (a .s)) .number ≡ 305 =
+    ap (λ (says : LookupSays). says .number) (sym (l .segment-tau .ensures) ∙ ap lookupSays (c .enum-told .given .1)) in
     as-it-was p (λ e. omega arith) (range-number (given p) (lengths p) (said-yes (l .before)) (out-of-range (a .path) (a .s) says))
 
 returns-3 : tie.Need-returns-3
 returns-3 c =
-    let l = c .before .before .before .before .before .before .before .before in
-    let f = l .before .before .before .before .before .before in
+    let done = c .before .before .before .before .before .before .before .before in
+    let f = lent (done .before) in
     let p = asked-at f in
     let i = given p in
-    let is : queryNumber i (lengths p) ≡ 0 = yes-number i (lengths p) (said-yes (f .before .before .before)) (inside f) in
-    let written : (k : ℕ) (before : List Float) → cond (writes (i .level) k) (derivativeAt (i .path) (i .coefficients) (segment f) (tau f .0) k) before ≡ derivativeAfter i (lengths p) k before =
-    λ k before. ap (λ (xs : List Float). cond (writes (i .level) k) xs before) (sym (derivative-at i (segment f) (tau f) (found f) k)) ∙ sym (served i (lengths p) is k before) in
-    let h = l .eval-axes .ensures in
+    let is : queryNumber i (lengths p) ≡ 0 = yes-number i (lengths p) (said-yes (asked-yes f)) (inside f) in
+    let derivative : ℕ → List Float = derivativeAt (i .path) (i .coefficients) (segment f) (tau f .0) in
+    let written : (k : ℕ) (xs : List Float) → cond (writes (i .level) k) (derivative k) xs ≡ derivativeAfter i (lengths p) k xs =
+    λ k xs. ap (λ (ys : List Float). cond (writes (i .level) k) ys xs) (sym (derivative-at i (segment f) (tau f) (found f) k))
+    ∙ sym (served i (lengths p) is k xs) in
+    let h = done .eval-axes .ensures in
     let always : writes (i .level) 0 ≡ true = le-leb 0 (i .level) (omega arith) in
     record {
       number-is = sym is;
-      q-is = h .is-q ∙ ap (λ (w : Bool). cond w (derivativeAt (i .path) (i .coefficients) (segment f) (tau f .0) 0) (before p .q)) (sym always) ∙ written 0 (before p .q);
+      q-is = h .is-q ∙ ap (λ (w : Bool). cond w (derivative 0) (before p .q)) (sym always) ∙ written 0 (before p .q);
       dq-is = h .is-dq ∙ written 1 (before p .dq);
       ddq-is = h .is-ddq ∙ written 2 (before p .ddq);
       dddq-is = h .is-dddq ∙ written 3 (before p .dddq);
@@ -120,8 +123,8 @@ eval-at-spec =
     (tie.spec
     (λ c κs. search needs)
     returns
-    segment-tau-requires
-    enum-told
+    (λ c κs. findable (given (c .before)) (lengths (c .before)) (said-yes c))
+    (λ c. search needs)
     (λ c. search needs)
     eval-axes-requires
     returns-2

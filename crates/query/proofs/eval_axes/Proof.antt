@@ -35,152 +35,137 @@ Inv-loop coeffs segment level q₀ dq₀ ddq₀ dddq₀ order segments axes inv-
 abbrev μ-loop : tie.MeasureT-loop
 μ-loop coeffs segment level q₀ dq₀ ddq₀ dddq₀ order segments axes inv-ds t inv-ds2 inv-ds3 axis₀ q dq ddq dddq axis = axes - axis
 
+-- a turn of the loop, from itself and from behind each of its calls
+abbrev Turn : Type 0
+Turn = tie.In-loop Inv-loop μ-loop
+
+abbrev evaluating : tie.After-eval-poly Inv-loop μ-loop → Turn
+evaluating d = d .before .before
+
+abbrev evaluated-at : tie.After-put Inv-loop μ-loop → tie.After-eval-poly Inv-loop μ-loop
+evaluated-at c = c .before .before .before
+
+abbrev first-put : tie.After-put2 Inv-loop μ-loop → tie.After-put Inv-loop μ-loop
+first-put c = c .before .before .before .before .before
+
+abbrev second-put : tie.After-put3 Inv-loop μ-loop → tie.After-put2 Inv-loop μ-loop
+second-put c = c .before .before .before .before .before
+
+abbrev ending : tie.After-put3 Inv-loop μ-loop → Turn
+ending c = evaluating (evaluated-at (first-put (second-put c)))
+
 -- what the caller promised, and what it says of the places of an axis
-abbrev start : tie.In-loop Inv-loop μ-loop → tie.Start Inv-loop μ-loop
-start c = c .before .before .before .before .before .before .before
+abbrev begun : tie.At-loop Inv-loop μ-loop → tie.Start Inv-loop μ-loop
+begun c = c .before .before .before .before .before .before
 
-abbrev count : tie.In-loop Inv-loop μ-loop → ℕ
-count c = start c .args .path .order + 1
+module _ (c : Turn) where
+  abbrev start : tie.Start Inv-loop μ-loop
+  start = begun (c .before)
 
-abbrev place : tie.In-loop Inv-loop μ-loop → ℕ
-place c = (c .before .loop .axis * start c .args .path .segments + start c .args .segment) * count c
+  abbrev axis : ℕ
+  axis = c .before .loop .axis
 
-abbrev inv : tie.In-loop Inv-loop μ-loop → Float
-inv c = start c .args .path .«inv_ds»
+  abbrev count : ℕ
+  count = start .args .path .order + 1
 
-abbrev table : tie.In-loop Inv-loop μ-loop → List Float
-table c = start c .args .coeffs .now
+  abbrev place : ℕ
+  place = (axis * start .args .path .segments + start .args .segment) * count
 
-record Places (c : tie.In-loop Inv-loop μ-loop) : Type 0 where
-  pub few : count c ≤ 8
-  pub inside : c .before .loop .axis * start c .args .path .segments + start c .args .segment < 2048
-  pub room : place c + count c ≤ length (table c)
-  pub small : place c + count c ≤ 16384
+  abbrev inv : Float
+  inv = start .args .path .«inv_ds»
 
-places : (c : tie.In-loop Inv-loop μ-loop) → Places c
-places c =
-    let h = start c .pre in
-    let l = c .loop-test .taken in
-    record {
-      few = let b = order-bound h in omega (arith, b);
-      inside = lt-of-lt-of-le (segment-inside h l) (segments-bound h);
-      room = rw (h .table) (part-inside-all h l);
-      small = le-trans (part-inside-all h l) (table-bound h);
-    }
+  abbrev table : List Float
+  table = start .args .coeffs .now
 
--- the cell of this axis is inside, in a buffer that is as long as the axes
-room-q : (c : tie.In-loop Inv-loop μ-loop) → c .before .loop .axis < length (start c .args .q .now)
-room-q c = rw (start c .pre .q) (c .loop-test .taken)
+  few : count ≤ 8
+  few = let b = order-bound (start .pre) in omega (arith, b)
 
-room : (c : tie.In-loop Inv-loop μ-loop) {w : Bool} {n : ℕ} → (w ≡ true → n ≡ start c .args .path .axes) → w ≡ true → c .before .loop .axis < n
-room c e t = rw (e t) (c .loop-test .taken)
+  inside : axis * start .args .path .segments + start .args .segment < 2048
+  inside = lt-of-lt-of-le (segment-inside (start .pre) (c .loop-test .taken)) (segments-bound (start .pre))
 
--- the derivatives of this axis
-abbrev derivatives : tie.In-loop Inv-loop μ-loop → ℕ → Float
-derivatives c = evalPoly (start c .args .path .order) (take (count c) (drop (place c) (table c))) (start c .args .tau .0)
+  place-inside : place + count ≤ length table
+  place-inside = rw (start .pre .table) (part-inside-all (start .pre) (c .loop-test .taken))
 
-evaluated : (c : tie.After-eval-poly Inv-loop μ-loop) → let i = c .before .before in c .eval-poly .result ≡ asked (start i .args .level) (derivatives i)
-evaluated c =
-    let i = c .before .before in
+  small : place + count ≤ 16384
+  small = le-trans (part-inside-all (start .pre) (c .loop-test .taken)) (table-bound (start .pre))
+
+  -- the cell of this axis is inside, in a buffer that is as long as the axes
+  room-q : axis < length (start .args .q .now)
+  room-q = rw (start .pre .q) (c .loop-test .taken)
+
+  room : {w : Bool} {n : ℕ} → (w ≡ true → n ≡ start .args .path .axes) → w ≡ true → axis < n
+  room e t = rw (e t) (c .loop-test .taken)
+
+  -- the derivatives of this axis
+  abbrev derivatives : ℕ → Float
+  derivatives = evalPoly (start .args .path .order) (take count (drop place table)) (start .args .tau .0)
+
+evaluated : (d : tie.After-eval-poly Inv-loop μ-loop) → let i = evaluating d in d .eval-poly .result ≡ asked (start i .args .level) (derivatives i)
+evaluated d =
+    let i = evaluating d in
     let a = start i .args in
-    c .eval-poly .ensures ∙ ap (λ (part : List Float). asked (a .level) (evalPoly (a .path .order) part (a .tau .0))) (part-size (place i) (count i) (table i))
+    d .eval-poly .ensures
+    ∙ ap (λ (part : List Float). asked (a .level) (evalPoly (a .path .order) part (a .tau .0))) (part-size (place i) (count i) (table i))
 
 loop-holds : tie.Need-loop-holds Inv-loop μ-loop
 loop-holds c = record { below = omega arith; is-q = Fills.none _ _; is-dq = Axes.none _ _ _; is-ddq = Axes.none _ _ _; is-dddq = Axes.none _ _ _ }
-
-mul-at : tie.Need-mul-at Inv-loop μ-loop
-mul-at c = let h = places c in record { fits = omega (arith, h .inside) }
-
-add-at : tie.Need-add-at Inv-loop μ-loop
-add-at c = let h = places c in record { fits = omega (arith, h .inside) }
-
-add-at-2 : tie.Need-add-at-2 Inv-loop μ-loop
-add-at-2 c = let h = places c in record { fits = omega (arith, h .few) }
-
-mul-at-2 : tie.Need-mul-at-2 Inv-loop μ-loop
-mul-at-2 c = let h = places c in record { fits = omega (arith, h .small) }
-
-add-eval-poly : tie.Need-add-eval-poly Inv-loop μ-loop
-add-eval-poly c = let h = places c in record { fits = omega (arith, h .few) }
-
-add-eval-poly-2 : tie.Need-add-eval-poly-2 Inv-loop μ-loop
-add-eval-poly-2 c = let h = places c in record { fits = omega (arith, h .small) }
-
-mul-eval-poly : tie.Need-mul-eval-poly Inv-loop μ-loop
-mul-eval-poly c = let h = places c in record { fits = omega (arith, h .small) }
-
-part-eval-poly-end : tie.Need-part-eval-poly-end Inv-loop μ-loop
-part-eval-poly-end c = places c .room
 
 eval-poly-requires : tie.Need-eval-poly-requires Inv-loop μ-loop
 eval-poly-requires c κs =
     let i = c .before in
     let h = start i .pre in
-    (h .order, h .known-level, ap length (part-size (place i) (count i) (table i)) ∙ part-length (place i) (count i) (table i) (places i .room))
-
-mul-q : tie.Need-mul-q Inv-loop μ-loop
-mul-q c = let h = room-q (c .before .before) in let l = start (c .before .before) .pre .few-axes in search needs
-
-slice-write-q : tie.Need-slice-write-q Inv-loop μ-loop
-slice-write-q c = let i = c .before .before in rw (Fills.kept (i .before .loop .inv .is-q)) (room-q i)
+    let long = part-length (place i) (count i) (table i) (place-inside i) in
+    (h .order, h .known-level, ap length (part-size (place i) (count i) (table i)) ∙ long)
 
 put-requires : tie.Need-put-requires Inv-loop μ-loop
-put-requires c κs = let i = c .before .before .before .before in rw (Axes.kept (i .before .loop .inv .is-dq)) (room i (start i .pre .dq))
+put-requires c κs = let i = evaluating (c .before .before) in rw (Axes.kept (i .before .loop .inv .is-dq)) (room i (start i .pre .dq))
 
 put-requires-2 : tie.Need-put-requires-2 Inv-loop μ-loop
-put-requires-2 c κs = let i = c .before .before .before .before .before .before .before .before .before in rw (Axes.kept (i .before .loop .inv .is-ddq)) (room i (start i .pre .ddq))
+put-requires-2 c κs =
+    let i = evaluating (evaluated-at (c .before .before .before .before)) in
+    rw (Axes.kept (i .before .loop .inv .is-ddq)) (room i (start i .pre .ddq))
 
 put-requires-3 : tie.Need-put-requires-3 Inv-loop μ-loop
-put-requires-3 c κs = let i = c .before .before .before .before .before .before .before .before .before .before .before .before .before .before in rw (Axes.kept (i .before .loop .inv .is-dddq)) (room i (start i .pre .dddq))
+put-requires-3 c κs =
+    let i = evaluating (evaluated-at (first-put (c .before .before .before .before))) in
+    rw (Axes.kept (i .before .loop .inv .is-dddq)) (room i (start i .pre .dddq))
 
 add-axis : tie.Need-add-axis Inv-loop μ-loop
-add-axis c = let i = c .before .before .before .before .before .before .before .before .before .before .before .before .before .before .before .before .before in let l = i .loop-test .taken in let h = start i .pre .few-axes in record { fits = omega (arith, l, h) }
-
-loop-less : tie.Need-loop-less Inv-loop μ-loop
-loop-less c = let i = c .before .before .before .before .before .before .before .before .before .before .before .before .before .before .before .before .before in let l = i .loop-test .taken in omega (arith, l)
+add-axis c = let i = ending (c .before .before) in record { fits = omega (arith, i .loop-test .taken, start i .pre .few-axes) }
 
 loop-again : tie.Need-loop-again Inv-loop μ-loop
 unfolding perUnitOfS
 loop-again c =
     let third = c .before .before in
-    let second = third .before .before .before .before .before in
-    let first = second .before .before .before .before .before in
-    let d = first .before .before .before in
-    let i = d .before .before in
-    let run = i .before .loop .inv in
+    let second = second-put third in
+    let first = first-put second in
+    let d = evaluated-at first in
+    let i = evaluating d in
+    let done = i .before .loop .inv in
     let h = start i .pre in
     let is = evaluated d in
+    let dq = asked-for (ap (λ (x : Derivatives). x .dq) is) in
+    let ddq = asked-for (ap (λ (x : Derivatives). x .ddq) is) in
+    let dddq = asked-for (ap (λ (x : Derivatives). x .dddq) is) in
     record {
       below = omega (arith, i .loop-test .taken);
-      is-q = Fills.step (run .is-q) (ap (λ (x : Derivatives). x .q) is) (room-q i);
-      is-dq = Axes.step (run .is-dq) (λ w. ap (λ (x : Float). x ⊗ inv i) (asked-for (ap (λ (d : Derivatives). d .dq) is) w)) (room i (h .dq)) (first .put .ensures);
-      is-ddq = Axes.step (run .is-ddq) (λ w. ap (λ (x : Float). x ⊗ (inv i ⊗ inv i)) (asked-for (ap (λ (d : Derivatives). d .ddq) is) w)) (room i (h .ddq)) (second .put2 .ensures);
-      is-dddq = Axes.step (run .is-dddq) (λ w. ap (λ (x : Float). x ⊗ (inv i ⊗ inv i ⊗ inv i)) (asked-for (ap (λ (d : Derivatives). d .dddq) is) w)) (room i (h .dddq)) (third .put3 .ensures);
+      is-q = Fills.step (done .is-q) (ap (λ (x : Derivatives). x .q) is) (room-q i);
+      is-dq = Axes.step (done .is-dq) (λ w. ap (λ (x : Float). x ⊗ inv i) (dq w)) (room i (h .dq)) (first .put .ensures);
+      is-ddq = Axes.step (done .is-ddq) (λ w. ap (λ (x : Float). x ⊗ (inv i ⊗ inv i)) (ddq w)) (room i (h .ddq)) (second .put2 .ensures);
+      is-dddq = Axes.step (done .is-dddq) (λ w. ap (λ (x : Float). x ⊗ (inv i ⊗ inv i ⊗ inv i)) (dddq w)) (room i (h .dddq)) (third .put3 .ensures);
     }
-
-same-length : tie.Need-same-length Inv-loop μ-loop
-same-length c = Fills.kept (c .before .loop .inv .is-q)
-
-same-length-2 : tie.Need-same-length-2 Inv-loop μ-loop
-same-length-2 c = Axes.kept (c .before .loop .inv .is-dq)
-
-same-length-3 : tie.Need-same-length-3 Inv-loop μ-loop
-same-length-3 c = Axes.kept (c .before .loop .inv .is-ddq)
-
-same-length-4 : tie.Need-same-length-4 Inv-loop μ-loop
-same-length-4 c = Axes.kept (c .before .loop .inv .is-dddq)
 
 returns : tie.Need-returns Inv-loop μ-loop
 unfolding derivativeAt segmentOf
 returns c =
-    let run = c .before .loop .inv in
-    let h = c .before .before .before .before .before .before .before .pre in
+    let done = c .before .loop .inv in
+    let h = begun (c .before) .pre in
     let l = c .loop-test .left in
     record {
-      is-q = Fills.whole (run .is-q) (h .q) l;
-      is-dq = Axes.whole (run .is-dq) (h .dq) l;
-      is-ddq = Axes.whole (run .is-ddq) (h .ddq) l;
-      is-dddq = Axes.whole (run .is-dddq) (h .dddq) l;
+      is-q = Fills.whole (done .is-q) (h .q) l;
+      is-dq = Axes.whole (done .is-dq) (h .dq) l;
+      is-ddq = Axes.whole (done .is-ddq) (h .ddq) l;
+      is-dddq = Axes.whole (done .is-dddq) (h .dddq) l;
     }
 
 pub eval-axes-spec : {M : Type 1} → statement M
@@ -190,27 +175,27 @@ eval-axes-spec =
     Inv-loop
     μ-loop
     loop-holds
-    mul-at
-    add-at
-    add-at-2
-    mul-at-2
-    add-eval-poly
-    add-eval-poly-2
-    mul-eval-poly
+    (λ c. record { fits = omega (arith, inside c) })
+    (λ c. record { fits = omega (arith, inside c) })
+    (λ c. record { fits = omega (arith, few c) })
+    (λ c. record { fits = omega (arith, small c) })
+    (λ c. record { fits = omega (arith, few c) })
+    (λ c. record { fits = omega (arith, small c) })
+    (λ c. record { fits = omega (arith, small c) })
     (λ c. omega arith)
     (λ c. search needs)
-    part-eval-poly-end
+    (λ c. place-inside c)
     eval-poly-requires
-    mul-q
-    slice-write-q
+    (λ c. let i = evaluating c in let h = room-q i in let l = start i .pre .few-axes in search needs)
+    (λ c. let i = evaluating c in rw (Fills.kept (i .before .loop .inv .is-q)) (room-q i))
     put-requires
     put-requires-2
     put-requires-3
     add-axis
-    loop-less
+    (λ c. omega (arith, ending (c .before .before) .loop-test .taken))
     loop-again
-    same-length
-    same-length-2
-    same-length-3
-    same-length-4
+    (λ c. Fills.kept (c .before .loop .inv .is-q))
+    (λ c. Axes.kept (c .before .loop .inv .is-dq))
+    (λ c. Axes.kept (c .before .loop .inv .is-ddq))
+    (λ c. Axes.kept (c .before .loop .inv .is-dddq))
     returns)
