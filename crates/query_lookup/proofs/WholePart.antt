@@ -4,7 +4,8 @@ use mathlib.Core.Path.{_≡_, refl, sym, ap, _∙_, subst}
 use mathlib.Core.Logic.{inl, inr}
 use mathlib.Core.Bool.{Bool, true, false, cond, _&&_, _||_}
 use Prim.Native.Nat.{ℕ, zero, suc, _+_, _-_, _*_, _/_, _%_, _^_, _≤_, _<_, min}
-use native.Mathlib.Nat.{zero-mul, mul-one, one-mul, le-trans, le-of-lt, le-refl, lt-of-le-of-lt, lt-of-lt-of-le, mod-le, mod-eq-sub-div-mul, div-add-mod', div-le-self, div-one, div-lt-iff-lt-mul, mul-le-mul-right, zero-lt-suc, le-add-right}
+use native.Mathlib.Nat.{zero-mul, mul-one, one-mul, le-trans, le-of-lt, le-refl, lt-of-le-of-lt, lt-of-lt-of-le, mod-le, mod-eq-sub-div-mul, div-add-mod'}
+use native.Mathlib.Nat.{div-le-self, div-one, div-lt-iff-lt-mul, mul-le-mul-right, zero-lt-suc, le-add-right}
 use native.Mathlib.Numerals.{suc-eq-add-one}
 use native.Mathlib.Omega.{arith}
 use borrow.Author.Tests.{lt-ltb}
@@ -77,7 +78,8 @@ rest-exact nan q p = absurd p
 rest-exact (inf s) q p = absurd p
 rest-exact (fin true m e) q p = absurd p
 rest-exact (fin false m (pos k)) q p =
-    ap (λ y. fin false m (pos k) ⊖ y) (round-held binary64 (fin false m (pos k)) false (m * 2 ^ k) 1 (zero-lt-suc 0) q (refl, refl)) ∙ sub-self binary64 false m (pos k)
+    ap (λ y. fin false m (pos k) ⊖ y) (round-held binary64 (fin false m (pos k)) false (m * 2 ^ k) 1 (zero-lt-suc 0) q (refl, refl))
+    ∙ sub-self binary64 false m (pos k)
 rest-exact (fin false m (negsuc k)) q p = fraction m k q (ltb→lt 0 m p)
 
 -- ---- the whole part
@@ -110,14 +112,21 @@ inside n (inf true) h g a b = absurd (refuted tt a)
 inside n (inf false) h g a b = absurd (refuted (under-infinity (ofCount n) false n 1 (count-value n h)) b)
 inside n (fin true m e) h g a b = absurd (refuted (negative (m * up e * 1) (0 * down e) (zero-mul (down e))) a)
 inside n (fin false zero e) h g a b =
-    absurd (refuted (le-of-values (fin false 0 e) +0 0 1 0 1 (zero-lt-suc 0) (zero-lt-suc 0) (refl, rw (zero-mul (up e), zero-mul (down e)) refl) (refl, refl) (le-refl 0)) a)
+    absurd
+    (refuted
+    (le-of-values (fin false 0 e) +0 0 1 0 1 (zero-lt-suc 0) (zero-lt-suc 0) (refl, rw (zero-mul (up e), zero-mul (down e)) refl) (refl, refl) (le-refl 0))
+    a)
 inside n (fin false (suc m) e) h g a b =
     let size = suc m * up e in
     record {
       above = lt→ltb 0 (suc m) (zero-lt-suc m);
       below = elim (less-or-not size (n * down e)) [
         | inl l ↦ l
-        | inr r ↦ absurd (refuted (le-of-values (ofCount n) (fin false (suc m) e) n 1 size (down e) (zero-lt-suc 0) (down-pos e) (count-value n h) (refl, refl) (rw mul-one r)) b)
+        | inr r ↦
+            absurd
+            (refuted
+            (le-of-values (ofCount n) (fin false (suc m) e) n 1 size (down e) (zero-lt-suc 0) (down-pos e) (count-value n h) (refl, refl) (rw mul-one r))
+            b)
       ];
     }
 
@@ -142,33 +151,40 @@ by-parts P f (fin false m e) p = f m e
 -- A word that holds n has room for the truncation, which is the whole part. It asks for a number above −1 and below 2^w.
 pub truncation : (w : ℕ) {n : ℕ} {x : Float} → n ≤ 2 ^ w → Inside n x → toUnsigned w x ≡ wholePart x
 unfolding toUnsigned
-truncation w {n} {x} h i = by-parts (λ x. wholePart x ≡ num x / den x → wholePart x < 2 ^ w → toUnsigned w x ≡ wholePart x) go x (i .above) (whole-is x (i .above)) (lt-of-lt-of-le (whole-below i) h)
+truncation w {n} {x} h i =
+    by-parts (λ x. wholePart x ≡ num x / den x → wholePart x < 2 ^ w → toUnsigned w x ≡ wholePart x) go x (i .above) (whole-is x (i .above))
+    (lt-of-lt-of-le (whole-below i) h)
   where
     uncapped : (a c : ℕ) → a < c → min a (c - 1) ≡ a
     uncapped a c h = omega arith
 
-    go : (m : ℕ) (e : ℤ) → wholePart (fin false m e) ≡ m * up e / down e → wholePart (fin false m e) < 2 ^ w → toUnsigned w (fin false m e) ≡ wholePart (fin false m e)
+    go : (m : ℕ) (e : ℤ) → wholePart (fin false m e) ≡ m * up e / down e → wholePart (fin false m e) < 2 ^ w
+        → toUnsigned w (fin false m e) ≡ wholePart (fin false m e)
     go m e whole l = uncapped (m * up e / down e) (2 ^ w) (rw (← whole) l) ∙ sym whole
 
 pub above-minus-one : {n : ℕ} {x : Float} → Inside n x → T (lt (fin true 1 (pos 0)) x)
 unfolding lt
 above-minus-one {n} {x} i =
-    by-parts (λ x. T (lt (fin true 1 (pos 0)) x)) (λ m e. lt→ltb 0 (1 * down e + m * up e * 1) (lt-of-lt-of-le (down-pos e) (rw one-mul (le-add-right (down e) (m * up e * 1))))) x (i .above)
+    by-parts (λ x. T (lt (fin true 1 (pos 0)) x))
+    (λ m e. lt→ltb 0 (1 * down e + m * up e * 1) (lt-of-lt-of-le (down-pos e) (rw one-mul (le-add-right (down e) (m * up e * 1))))) x (i .above)
 
 pub below-power : (w : ℕ) {n : ℕ} {x : Float} → n ≤ 2 ^ w → Inside n x → T (lt x (fin false 1 (pos w)))
 unfolding lt
 below-power w {n} {x} h i =
-    by-parts (λ x. num x < 2 ^ w * den x → T (lt x (fin false 1 (pos w)))) (λ m e l. lt→ltb (m * up e * 1) (1 * 2 ^ w * down e) (rw (mul-one, one-mul) l)) x (i .above)
+    by-parts (λ x. num x < 2 ^ w * den x → T (lt x (fin false 1 (pos w))))
+    (λ m e l. lt→ltb (m * up e * 1) (1 * 2 ^ w * down e) (rw (mul-one, one-mul) l)) x (i .above)
     (lt-of-lt-of-le (i .below) (mul-le-mul-right (den x) h))
 
 -- ---- the lookup stays among the segments
 
-pub segment-inside : (segments : ℕ) (x : SegmentUnits) → 1 ≤ segments → segments ≤ 256 → isNan (x .0) ≡ false → lookupSays (located segments x) .segment < segments
+pub segment-inside : (segments : ℕ) (x : SegmentUnits) → 1 ≤ segments → segments ≤ 256 → isNan (x .0) ≡ false
+    → lookupSays (located segments x) .segment < segments
 unfolding located lookupSays
 segment-inside n x p h g = go (le (x .0) +0) (le (ofCount n) (x .0)) (inside n (x .0) (le-trans h (lit≤ tt)) g)
   where
     go : (b c : Bool) → (b ≡ false → c ≡ false → Inside n (x .0))
-        → lookupSays (cond b (At 0 (record { 0 = +0 })) (cond c (At (n - 1) (record { 0 = +1 })) (At (wholePart (x .0)) (record { 0 = exactRest (x .0) })))) .segment < n
+        → lookupSays
+        (cond b (At 0 (record { 0 = +0 })) (cond c (At (n - 1) (record { 0 = +1 })) (At (wholePart (x .0)) (record { 0 = exactRest (x .0) })))) .segment < n
     go true c i = p
     go false true i = omega arith
     go false false i = whole-below (i refl refl)

@@ -1,4 +1,5 @@
--- The general loop, as its invariant has it: b is what a level asks for of the coefficients from k on. The laws are the loop's start, a step of it, and its end.
+-- The general loop, as its invariant has it: b is what a level asks for of the coefficients from k on. The laws are the loop's start, a step of it, and its
+-- end.
 -- Assumes nothing.
 use mathlib.Core.Path.{_≡_, refl}
 use mathlib.Core.Bool.{Bool, true, false, cond}

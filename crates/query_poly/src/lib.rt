@@ -131,7 +131,9 @@ fn quintic(level: u8, a: &[f64], t: f64) -> Derivatives
 // A step of the general loop, product and sum rounded apart: one coefficient more.
 fn general_step(level: u8, b: Derivatives, t: f64, a: f64) -> Derivatives
     requires { ⌜ T (validLevel level) ⌝ }
-    ensures { λ r. ⌜ ((y : Float) (rest : List Float) → b ≡ asked level (loopDerivative (generalLoop t (y ∷ rest))) → r ≡ asked level (loopDerivative (generalLoop t (a ∷ (y ∷ rest))))) ⌝ }
+    ensures { λ r. ⌜ ((y : Float) (rest : List Float)
+        → b ≡ asked level (loopDerivative (generalLoop t (y ∷ rest)))
+        → r ≡ asked level (loopDerivative (generalLoop t (a ∷ (y ∷ rest))))) ⌝ }
 {
     let q = b.q * t + a;
     if level == 0 {

@@ -16,7 +16,8 @@ same c = toZ-pos w64 (lt-of-le-of-lt (c .pre) (lit≤ tt))
 
 int-to-float-result : tie.Need-int-to-float-result
 unfolding inFloat
-int-to-float-result c = subst (λ (z : ℤ). T (inFloat binary64 z)) (sym (same (c .before))) (le→leb (c .before .args .n) 9007199254740992 (le-trans (c .before .pre) (lit≤ tt)))
+int-to-float-result c =
+    subst (λ (z : ℤ). T (inFloat binary64 z)) (sym (same (c .before))) (le→leb (c .before .args .n) 9007199254740992 (le-trans (c .before .pre) (lit≤ tt)))
 
 returns : tie.Need-returns
 returns c = ap (ofInt binary64) (same (c .before))

@@ -1,4 +1,5 @@
--- Each way out is a case of the definition, by the mode and the first test. In Error a NaN fails the first test, and in Clamp it is the one value that does not equal itself. Assumes nothing.
+-- Each way out is a case of the definition, by the mode and the first test. In Error a NaN fails the first test, and in Clamp it is the one value that does not
+-- equal itself. Assumes nothing.
 use mathlib.Core.Path.{_≡_, refl, sym, ap, _∙_}
 use mathlib.Core.Bool.{Bool, not, _&&_}
 use lib.Ieee.{Float, nan, inf, fin, le, isNan}

@@ -42,7 +42,8 @@ truncating-f64-to-u64-requires : tie.Need-truncating-f64-to-u64-requires
 truncating-f64-to-u64-requires c κs = (above-minus-one (between c), below-power 64 (few (c .before .before .before .before .before) (lit≤ tt)) (between c))
 
 count-as-float-requires : tie.Need-count-as-float-requires
-count-as-float-requires c κs = rw (whole c) (le-trans (le-of-lt (whole-below (between (c .before)))) (few (c .before .before .before .before .before .before) (lit≤ tt)))
+count-as-float-requires c κs =
+    rw (whole c) (le-trans (le-of-lt (whole-below (between (c .before)))) (few (c .before .before .before .before .before .before) (lit≤ tt)))
 
 returns-3 : tie.Need-returns-3
 unfolding located ofBits

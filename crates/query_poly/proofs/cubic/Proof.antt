@@ -23,11 +23,17 @@ module _ (c : tie.After-mul-add6) where
 
   position : c .mul-add6 .result ≡ derivative start 0
   unfolding listed derivativeFactor
-  position = derivative-is _ 0 (start .pre .1) (step (c .mul-add6 .ensures) (step (c .before .before .mul-add4 .ensures) (step (c .before .before .before .before .before .mul-add .ensures) last)))
+  position =
+      let q1 = c .before .before in
+      let q2 = q1 .before .before .before in
+      derivative-is _ 0 (start .pre .1) (step (c .mul-add6 .ensures) (step (q1 .mul-add4 .ensures) (step (q2 .mul-add .ensures) last)))
 
   first : c .before .mul-add5 .result ≡ derivative start 1
   unfolding ofBits ofInt listed derivativeFactor
-  first = derivative-is _ 1 (start .pre .1) (step (c .before .mul-add5 .ensures) (step (c .before .before .before .before .mul-add2 .ensures) last))
+  first =
+      let dq1 = c .before in
+      let dq2 = dq1 .before .before .before in
+      derivative-is _ 1 (start .pre .1) (step (dq1 .mul-add5 .ensures) (step (dq2 .mul-add2 .ensures) last))
 
   second : c .before .before .before .mul-add3 .result ≡ derivative start 2
   unfolding ofBits ofInt listed derivativeFactor

@@ -8,7 +8,10 @@ use Rattle.query_poly.proofs.cubic_position.Tie as tie
 
 returns : tie.Need-returns
 unfolding listed derivativeFactor
-returns c = derivative-is _ 0 (c .before .before .before .before .before .before .before .before .pre) (step (c .mul-add3 .ensures) (step (c .before .before .mul-add2 .ensures) (step (c .before .before .before .before .mul-add .ensures) last)))
+returns c =
+    let q1 = c .before .before in
+    let q2 = q1 .before .before in
+    derivative-is _ 0 (q2 .before .before .before .before .pre) (step (c .mul-add3 .ensures) (step (q1 .mul-add2 .ensures) (step (q2 .mul-add .ensures) last)))
 
 pub cubic-position-spec : {M : Type 1} → statement M
 cubic-position-spec =

@@ -1,4 +1,5 @@
--- `query_poly::general` meets its contract. The loop's invariant: b is what the level asks for of the coefficients from k on. The measure is k. Assumes nothing.
+-- `query_poly::general` meets its contract. The loop's invariant: b is what the level asks for of the coefficients from k on. The measure is k. Assumes
+-- nothing.
 use mathlib.Core.Path.{sym, subst}
 use native.Mathlib.Omega.{arith}
 use borrow.Author.Needs.{needs}

@@ -13,28 +13,50 @@ use Rattle.query_poly.proofs.quintic.Tie as tie
 abbrev derivative : tie.Start → ℕ → Float
 derivative s = fusedDerivative 5 (s .args .a .now) (s .args .t)
 
--- where the position and the first two derivatives are found, past the test for level 0
+-- where the fused steps begin, past the test for level 0
+abbrev read : tie.After-mul-add → tie.Else1
+read c = c .before .before .before .before .before .before .before
+
+-- where the position and the first two derivatives are found
 module _ (c : tie.After-mul-add12) where
   abbrev past-0 : tie.Else1
-  past-0 = c .before .before .before .before .before .before .before .before .before .before .before .before .before .before .before .before .before .before
+  past-0 = read (c .before .before .before .before .before .before .before .before .before .before .before)
 
   abbrev start : tie.Start
   start = past-0 .before .before
 
   position : c .mul-add12 .result ≡ derivative start 0
   unfolding listed derivativeFactor
-  position = derivative-is _ 0 (start .pre .1) (step (c .mul-add12 .ensures) (step (c .before .before .mul-add10 .ensures) (step (c .before .before .before .before .before .mul-add7 .ensures) (step (c .before .before .before .before .before .before .before .before .mul-add4 .ensures) (step (c .before .before .before .before .before .before .before .before .before .before .before .mul-add .ensures) last)))))
+  position =
+      let q1 = c .before .before in
+      let q2 = q1 .before .before .before in
+      let q3 = q2 .before .before .before in
+      let q4 = q3 .before .before .before in
+      derivative-is _ 0 (start .pre .1)
+      (step (c .mul-add12 .ensures)
+      (step (q1 .mul-add10 .ensures) (step (q2 .mul-add7 .ensures) (step (q3 .mul-add4 .ensures) (step (q4 .mul-add .ensures) last)))))
 
   first : c .before .mul-add11 .result ≡ derivative start 1
   unfolding ofBits ofInt listed derivativeFactor
-  first = derivative-is _ 1 (start .pre .1) (step (c .before .mul-add11 .ensures) (step (c .before .before .before .before .mul-add8 .ensures) (step (c .before .before .before .before .before .before .before .mul-add5 .ensures) (step (c .before .before .before .before .before .before .before .before .before .before .mul-add2 .ensures) last))))
+  first =
+      let dq1 = c .before in
+      let dq2 = dq1 .before .before .before in
+      let dq3 = dq2 .before .before .before in
+      let dq4 = dq3 .before .before .before in
+      derivative-is _ 1 (start .pre .1)
+      (step (dq1 .mul-add11 .ensures) (step (dq2 .mul-add8 .ensures) (step (dq3 .mul-add5 .ensures) (step (dq4 .mul-add2 .ensures) last))))
 
   second : c .before .before .before .mul-add9 .result ≡ derivative start 2
   unfolding ofBits ofInt listed derivativeFactor
-  second = derivative-is _ 2 (start .pre .1) (step (c .before .before .before .mul-add9 .ensures) (step (c .before .before .before .before .before .before .mul-add6 .ensures) (step (c .before .before .before .before .before .before .before .before .before .mul-add3 .ensures) last)))
+  second =
+      let ddq2 = c .before .before .before in
+      let ddq3 = ddq2 .before .before .before in
+      let ddq4 = ddq3 .before .before .before in
+      derivative-is _ 2 (start .pre .1) (step (ddq2 .mul-add9 .ensures) (step (ddq3 .mul-add6 .ensures) (step (ddq4 .mul-add3 .ensures) last)))
 
 returns : tie.Need-returns
-returns c = c .position .ensures ∙ asked-0 (derivative (c .before .before .before .before)) (c .before .quintic-position .ensures) (c .before .before .if1 .taken)
+returns c =
+    c .position .ensures ∙ asked-0 (derivative (c .before .before .before .before)) (c .before .quintic-position .ensures) (c .before .before .if1 .taken)
 
 returns-2 : tie.Need-returns-2
 returns-2 c =

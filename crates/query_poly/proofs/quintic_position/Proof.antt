@@ -9,12 +9,13 @@ use Rattle.query_poly.proofs.quintic_position.Tie as tie
 returns : tie.Need-returns
 unfolding listed derivativeFactor
 returns c =
-    derivative-is _ 0 (c .before .before .before .before .before .before .before .before .before .before .before .before .pre)
+    let q1 = c .before .before in
+    let q2 = q1 .before .before in
+    let q3 = q2 .before .before in
+    let q4 = q3 .before .before in
+    derivative-is _ 0 (q4 .before .before .before .before .pre)
     (step (c .mul-add5 .ensures)
-    (step (c .before .before .mul-add4 .ensures)
-    (step (c .before .before .before .before .mul-add3 .ensures)
-    (step (c .before .before .before .before .before .before .mul-add2 .ensures)
-    (step (c .before .before .before .before .before .before .before .before .mul-add .ensures) last)))))
+    (step (q1 .mul-add4 .ensures) (step (q2 .mul-add3 .ensures) (step (q3 .mul-add2 .ensures) (step (q4 .mul-add .ensures) last)))))
 
 pub quintic-position-spec : {M : Type 1} → statement M
 quintic-position-spec =
