@@ -10,12 +10,6 @@ use Rattle.query.proofs.put.Tie as tie
 inside : (c : tie.Then1) → c .before .args .axis < length (c .before .args .cells .now)
 inside c = c .before .pre (le-leb _ _ (c .if1 .taken))
 
-mul-cells : tie.Need-mul-cells
-mul-cells c = let h = inside c in search needs
-
-slice-write-cells : tie.Need-slice-write-cells
-slice-write-cells c = inside c
-
 returns : tie.Need-returns
 returns c = rw (le-leb _ _ (c .if1 .taken))
 
@@ -23,4 +17,6 @@ returns-2 : tie.Need-returns-2
 returns-2 c = rw (lt-leb _ _ (c .if1 .left))
 
 pub put-spec : {M : Type 1} → statement M
-put-spec = tie.close (tie.spec mul-cells slice-write-cells (λ c. search needs) returns returns-2)
+put-spec =
+    tie.close
+    (tie.spec (λ c. let h = inside c in search needs) (λ c. inside c) (λ c. search needs) returns returns-2)
