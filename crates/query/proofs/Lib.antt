@@ -1,2 +1,1 @@
-pub mod AxesLoop
-pub mod Answered
+pub mod NumberAndBuffers

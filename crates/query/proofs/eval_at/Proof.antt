@@ -12,11 +12,10 @@ use Rattle.rules.specs.declared.SegmentUnits.{SegmentUnits}
 use Rattle.rules.specs.declared.Lookup.the-variants.{At}
 use Rattle.rules.specs.Query.{QueryInput, Lengths, Buffers, buffers, lengthsOf, writes, lookup, LookupSays, lookupSays}
 use Rattle.rules.specs.Query.{queryNumber, derivativeAfter, Queried}
-use Rattle.query.specs.Evaluation.{derivativeAt}
+use Rattle.query_axes.specs.Evaluation.{derivativeAt}
 use Rattle.questions.specs.Input.{queryOf}
-use Rattle.query.proofs.Answered as Answered
 use Rattle.query_lookup.proofs.Answer.{range, in-range, out-of-range, segment-known}
-use Rattle.query.proofs.Answered.{no-number, range-number, yes-number, refused, served, findable, evaluable, derivative-at}
+use Rattle.query.proofs.NumberAndBuffers.{asked, no-number, range-number, yes-number, refused, served, findable, evaluable, derivative-at}
 use Rattle.query.proofs.eval_at.Statement.{statement}
 use Rattle.query.proofs.eval_at.Tie as tie
 
@@ -36,10 +35,10 @@ before p = let a = start p .args in buffers (a .q .now) (a .dq .now) (a .ddq .no
 abbrev lengths : Place → Lengths
 lengths p = lengthsOf (before p)
 
-answer : (p : Place) → p .query-questions .result ≡ Answered.asked (given p) (lengths p)
+answer : (p : Place) → p .query-questions .result ≡ asked (given p) (lengths p)
 answer p = p .query-questions .ensures
 
-said-yes : (c : tie.Else1) → Answered.asked (given (c .before)) (lengths (c .before)) ≡ 0
+said-yes : (c : tie.Else1) → asked (given (c .before)) (lengths (c .before)) ≡ 0
 said-yes c = sym (answer (c .before)) ∙ c .if1 .left
 
 -- behind the lookup: the segment and tau that it answered

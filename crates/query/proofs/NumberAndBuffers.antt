@@ -20,7 +20,7 @@ use Rattle.rules.specs.Query.{queryQuestions, pathQuestions, bufferQuestions, r
 use Rattle.rules.specs.Lists.{listed}
 use Rattle.rules.proofs.Query.{long-enough}
 use Rattle.rules.proofs.Questions.{answerAt, said-yes, first-no, first-yes, yes-to, no-to}
-use Rattle.query.specs.Evaluation.{Evaluable, derivativeAt}
+use Rattle.query_axes.specs.Evaluation.{Evaluable, derivativeAt}
 use Rattle.query_lookup.specs.Path.{Findable}
 use Rattle.query_lookup.proofs.Answer.{range}
 

@@ -3,8 +3,8 @@ use Prim.Native.Nat.{_<_}
 use lib.ListN.{length}
 use borrow.Author.Needs.{needs}
 use borrow.Author.Tests.{le-leb, lt-leb}
-use Rattle.query.proofs.put.Statement.{statement}
-use Rattle.query.proofs.put.Tie as tie
+use Rattle.query_axes.proofs.put.Statement.{statement}
+use Rattle.query_axes.proofs.put.Tie as tie
 
 -- the cell is inside, where the level writes
 inside : (c : tie.Then1) → c .before .args .axis < length (c .before .args .cells .now)

@@ -14,12 +14,12 @@ use Rattle.rules.proofs.Fills as Fills
 use Rattle.rules.proofs.Fills.{Filled}
 use Rattle.query_poly.specs.declared.Derivatives.{Derivatives}
 use Rattle.query_poly.specs.Level.{asked}
-use Rattle.query.specs.Evaluation.{derivativeAt}
-use Rattle.query.proofs.AxesLoop as Axes
+use Rattle.query_axes.specs.Evaluation.{derivativeAt}
+use Rattle.query_axes.proofs.AxesLoop as Axes
 use Rattle.rules.proofs.Lent.{part-size, part-length}
-use Rattle.query.proofs.AxesLoop.{Written, cell, order-bound, segments-bound, table-bound, segment-inside, part-inside-all, asked-for}
-use Rattle.query.proofs.eval_axes.Statement.{statement}
-use Rattle.query.proofs.eval_axes.Tie as tie
+use Rattle.query_axes.proofs.AxesLoop.{Written, cell, order-bound, segments-bound, table-bound, segment-inside, part-inside-all, asked-for}
+use Rattle.query_axes.proofs.eval_axes.Statement.{statement}
+use Rattle.query_axes.proofs.eval_axes.Tie as tie
 
 record Run (f : ℕ → ℕ → Float) (level axes : ℕ) (q₀ dq₀ ddq₀ dddq₀ q dq ddq dddq : List Float) (axis : ℕ) : Type 0 where
   pub below : axis ≤ axes

@@ -16,7 +16,7 @@ use Rattle.rules.proofs.Cells.{cell-inside}
 use Rattle.rules.proofs.Fills as Fills
 use Rattle.rules.proofs.Fills.{Filled}
 use Rattle.rules.proofs.Lists.{part-inside}
-use Rattle.query.specs.Evaluation.{Evaluable}
+use Rattle.query_axes.specs.Evaluation.{Evaluable}
 
 -- ---- a buffer that is written, w, or not: ys is xs with f's cells below i, or xs itself
 
