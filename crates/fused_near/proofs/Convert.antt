@@ -1,4 +1,4 @@
--- The common case: words as floats. What the functions of src/near.rt come to. Assumes nothing.
+-- The common case: words as floats. What the functions of the code come to. Assumes nothing.
 use mathlib.Core.Path.{_≡_, refl, sym, ap, ap₂, _∙_, subst}
 use mathlib.Core.Logic.{inl, inr}
 use Prim.Native.Nat.{ℕ, suc, _+_, _-_, _*_, _/_, _%_, _^_, _≤_, _<_}
