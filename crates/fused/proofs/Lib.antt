@@ -1,9 +1,1 @@
-pub mod Carry
-pub mod Shift
-pub mod Round
-pub mod Cases
-pub mod Values
-pub mod Unpack
-pub mod Operands
-pub mod Convert
-pub mod Window
+pub mod Common

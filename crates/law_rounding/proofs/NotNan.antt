@@ -6,10 +6,10 @@ use Prim.Native.Nat.{ℕ, _+_, _-_, _*_, _<_, zero-le}
 use native.Mathlib.Nat.{lt-of-le-of-lt, mul-pos}
 use native.Mathlib.Omega.{arith}
 use lib.IntN.{pos}
-use lib.Dec.{T, ltb, eqb, ltb→lt, lt→ltb, eqb→eq, not-T}
+use lib.Dec.{T, ltb, eqb, ltb→lt, lt→ltb, eqb→eq, eqb-refl, not-T}
 use lib.Ieee.{Float, nan, inf, fin, Format, unlike, up, down, round, sum, add, neg, sub, mul, lt, eq, le, isNan}
-use lib.Ieee.Fits.{up-pos, down-pos, and-l, and-r}
-use lib.Ieee.Bits.{cond-no}
+use lib.Ieee.Fits.{up-pos, down-pos, and-l, and-r, and-i}
+use lib.Ieee.Bits.{cond-no, is-true}
 use lib.Ieee.Scale.{finite}
 use lib.Ieee.Positive.{positive, first-pos}
 use Rattle.law_rounding.proofs.Signs.{rounded}
@@ -93,3 +93,18 @@ equal-positive (fin s m i) (fin false n d) h e = go s (and-r (eqb a b) (Bool·be
     go : (s : Bool) → T (Bool·beq s false || eqb a 0) → T (positive (fin s m i))
     go true k = absurd (not-zero a above (eqb→eq a 0 k))
     go false k = lt→ltb 0 m (first-pos m (up i) (first-pos (m * up i) (down d) above))
+
+-- a value that is no NaN equals itself
+pub number-test : (x : Float) → eq x x ≡ not (isNan x)
+unfolding eq isNan
+number-test nan = refl
+number-test (inf true) = refl
+number-test (inf false) = refl
+number-test (fin s m e) = is-true (eqb n n && (Bool·beq s s || eqb n 0)) (and-i (eqb n n) (Bool·beq s s || eqb n 0) (eqb-refl n) (alike s))
+  where
+    n : ℕ
+    n = m * up e * down e
+
+    alike : (s : Bool) → T (Bool·beq s s || eqb n 0)
+    alike true = tt
+    alike false = tt

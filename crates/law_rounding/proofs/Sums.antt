@@ -25,6 +25,19 @@ pub not-not : (s : Bool) → not (not s) ≡ s
 not-not true = refl
 not-not false = refl
 
+-- which sign the other has
+pub signs-like : (b s : Bool) → Bool·beq b s ≡ true → s ≡ b
+signs-like true true e = refl
+signs-like true false e = e
+signs-like false true e = sym e
+signs-like false false e = refl
+
+pub signs-unlike : (b s : Bool) → Bool·beq b s ≡ false → s ≡ not b
+signs-unlike true true e = e
+signs-unlike true false e = refl
+signs-unlike false true e = refl
+signs-unlike false false e = sym e
+
 -- two signs are alike, or the second is the other
 pub by-signs : (P : Bool → Bool → Type 0) → ((s : Bool) → P s s) → ((s : Bool) → P s (not s)) → (s t : Bool) → P s t
 by-signs P like other true true = like true

@@ -78,6 +78,26 @@ fields-value f s (suc x) t h =
     unequal : (a b : ℕ) → a < b → a ≡ b → ⊥
     unequal a b l e = omega arith
 
+-- a field of 0 has no leading digit, and any other has
+pub weight-zero : (f : Format) (x t : ℕ) → x ≡ 0 → t ≡ weight f x t
+unfolding weight
+weight-zero f zero t e = refl
+weight-zero f (suc x) t e = absurd (none x e)
+  where
+    none : (x : ℕ) → suc x ≡ 0 → ⊥
+    none x e = omega arith
+
+pub weight-more : (f : Format) (x t : ℕ) → 0 < x → (hid f + t) * 2 ^ (x - 1) ≡ weight f x t
+unfolding weight
+weight-more f zero t h = absurd (none h)
+  where
+    none : 0 < 0 → ⊥
+    none h = omega arith
+weight-more f (suc x) t h = ap (λ (k : ℕ). (hid f + t) * 2 ^ k) (pred x)
+  where
+    pred : (x : ℕ) → suc x - 1 ≡ x
+    pred x = omega arith
+
 pub bits-value : (f : Format) (b : ℕ) → b % top f / hid f < ones f → HasValue (ofBits f b) (leb (top f) b) (weight f (b % top f / hid f) (b % hid f)) (2 ^ low f)
 unfolding ofBits
 bits-value f b h = fields-value f (leb (top f) b) (b % top f / hid f) (b % hid f) h

@@ -1,7 +1,1 @@
-pub mod Levels
-pub mod Steps
-pub mod Loop
-pub mod Rest
-pub mod Scaled
-pub mod Axes
-pub mod Answered
+pub mod NumberAndBuffers

@@ -1,4 +1,5 @@
--- The parameters that stand behind the path in each evaluation: the position, the level and the four buffers, as places of a signature of five lifetimes. The first lifetime is the coefficients'.
+-- The parameters that stand behind the path in each evaluation: the position, the level and the four buffers, as places of a signature of five lifetimes. The
+-- first lifetime is the coefficients'.
 --     slots, Types       the places, and their types at the lifetimes
 --     spelt, told        their machine values as functions of their values, and that they can be no others
 --     lawful             that their machine values are of their MIR types
@@ -21,7 +22,8 @@ use Rattle.rules.proofs.PathParam as P
 use Rattle.rules.proofs.PathParam.Laws as P′
 
 abbrev pub slots : List (Slot 5)
-slots = plain (λ _. P.the-row) ∷ plain (λ _. u8) ∷ mutSlice 1 tt (λ _. f64) ∷ mutSlice 2 tt (λ _. f64) ∷ mutSlice 3 tt (λ _. f64) ∷ mutSlice 4 tt (λ _. f64) ∷ []
+slots =
+    plain (λ _. P.the-row) ∷ plain (λ _. u8) ∷ mutSlice 1 tt (λ _. f64) ∷ mutSlice 2 tt (λ _. f64) ∷ mutSlice 3 tt (λ _. f64) ∷ mutSlice 4 tt (λ _. f64) ∷ []
 
 module _ (κs : Lfts 5) where
   abbrev pub Types : List RattleType
@@ -35,7 +37,13 @@ module _ (κs : Lfts 5) where
     LL.tells P.the-type P′.the-laws,
     (
       uint-tells w8,
-      (mut-slice-tells (named 1) (κs .1 .0) f64, (mut-slice-tells (named 2) (κs .1 .1 .0) f64, (mut-slice-tells (named 3) (κs .1 .1 .1 .0) f64, (mut-slice-tells (named 4) (κs .1 .1 .1 .1 .0) f64, tt)))),
+      (
+        mut-slice-tells (named 1) (κs .1 .0) f64,
+        (
+          mut-slice-tells (named 2) (κs .1 .1 .0) f64,
+          (mut-slice-tells (named 3) (κs .1 .1 .1 .0) f64, (mut-slice-tells (named 4) (κs .1 .1 .1 .1 .0) f64, tt)),
+        ),
+      ),
     ),
   )
 
@@ -44,6 +52,12 @@ module _ (κs : Lfts 5) where
     LL.lawful P.the-type P′.the-laws 𝓤 H A W,
     (
       uint-lawful 𝓤 H A W w8,
-      (mut-slice-lawful 𝓤 H A W (named 1) (κs .1 .0) f64, (mut-slice-lawful 𝓤 H A W (named 2) (κs .1 .1 .0) f64, (mut-slice-lawful 𝓤 H A W (named 3) (κs .1 .1 .1 .0) f64, (mut-slice-lawful 𝓤 H A W (named 4) (κs .1 .1 .1 .1 .0) f64, tt)))),
+      (
+        mut-slice-lawful 𝓤 H A W (named 1) (κs .1 .0) f64,
+        (
+          mut-slice-lawful 𝓤 H A W (named 2) (κs .1 .1 .0) f64,
+          (mut-slice-lawful 𝓤 H A W (named 3) (κs .1 .1 .1 .0) f64, (mut-slice-lawful 𝓤 H A W (named 4) (κs .1 .1 .1 .1 .0) f64, tt)),
+        ),
+      ),
     ),
   )

@@ -69,6 +69,13 @@ unfoldable pub inRange : OutOfRangeMode → PathParam → PathParam → PathPara
 inRange Error lo hi s = not (isNan (s .0)) && le (lo .0) (s .0) && le (s .0) (hi .0)
 inRange Clamp lo hi s = not (isNan (s .0))
 
+-- "question 8, and inv_ds equal to that quotient"
+abbrev pub validPathRange : PathRecord → Bool
+validPathRange p =
+    let lo = p .«s_min» in
+    let hi = p .«s_max» in
+    validRange (p .segments) lo hi && eq (p .«inv_ds») (invDs (p .segments) lo hi)
+
 -- the questions about a path with so many coefficients, in order
 unfoldable pub pathQuestions : PathRecord → ℕ → List Question
 pathQuestions p cells =
@@ -76,7 +83,7 @@ pathQuestions p cells =
     ask (leb 1 (p .segments)) 304 ∷
     ask (leb (p .segments) 256) 2 ∷
     ask (validAxes (p .axes)) 300 ∷
-    ask (validRange (p .segments) (p .«s_min») (p .«s_max») && eq (p .«inv_ds») (invDs (p .segments) (p .«s_min») (p .«s_max»))) 301 ∷
+    ask (validPathRange p) 301 ∷
     ask (eqb cells (tableLength (p .axes) (p .segments) (p .order))) 303 ∷ []
 
 -- about the level, and buffers of such lengths

@@ -1,122 +1,87 @@
 -- In the common case the result is the sum of the magnitudes (`common-shifted`), and so is the definition (`by-bits`). Assumes nothing.
-use mathlib.Core.Path.{sym, _∙_}
-use Prim.Native.Nat.{_-_, _≤_}
+use mathlib.Core.Path.{_≡_, sym, _∙_}
+use Prim.Native.Nat.{ℕ, _+_, _-_, _≤_, _<_}
 use native.Mathlib.Omega.{arith}
 use native.Mathlib.Nat.{lt-of-lt-of-le}
 use lib.Dec.{lit≤}
 use lib.Ieee.{binary64, toBits}
 use borrow.Author.Needs.{needs}
-use Rattle.fused.proofs.Operands.{held, by-bits}
-use Rattle.fused.proofs.Window.{is-common, shift-room, common-fields, common-nonzero, common-shifted}
+use Rattle.fused_general.specs.Bits.{field}
+use Rattle.fused_general.proofs.Operands.{held, by-bits}
+use Rattle.fused.proofs.Common.{Common, is-common, shift-room, common-fields, common-nonzero, common-shifted}
 use Rattle.fused.proofs.mul_add.Statement.{statement}
 use Rattle.fused.proofs.mul_add.Tie as tie
 
-number-requires : tie.Need-number-requires
-number-requires c κs = search needs
+-- in the common case: the operands' bits, and what the test of their fields says of them
+module _ (c : tie.Then4) where
+  abbrev start : tie.Start
+  start = c .before .before .before .before .before .before .before .before .before
 
-number-requires-2 : tie.Need-number-requires-2
-number-requires-2 c κs = search needs
+  abbrev x : ℕ
+  x = toBits binary64 (start .args .a)
 
-number-requires-3 : tie.Need-number-requires-3
-number-requires-3 c κs = search needs
+  abbrev y : ℕ
+  y = toBits binary64 (start .args .b)
 
-float-to-bits-x : tie.Need-float-to-bits-x
-float-to-bits-x c = (held (sym (c .before .before .before .before .before .number .ensures) ∙ c .before .before .before .before .if1 .taken))
+  abbrev z : ℕ
+  z = toBits binary64 (start .args .c)
 
-float-to-bits-y : tie.Need-float-to-bits-y
-float-to-bits-y c = (held (sym (c .before .before .before .number2 .ensures) ∙ c .before .before .if2 .taken))
+  abbrev above : ℕ
+  above = c .before .before .wrapping-sub-u64 .result
 
-float-to-bits-z : tie.Need-float-to-bits-z
-float-to-bits-z c = (held (sym (c .before .number3 .ensures) ∙ c .if3 .taken))
+  fields : (600 ≤ field x) × (field x < 1450) × (600 ≤ field y) × (field y < 1450) × (above < 126)
+  fields = c .before .common .ensures (c .if4 .taken)
 
-add-wrapping-sub-u64 : tie.Need-add-wrapping-sub-u64
-add-wrapping-sub-u64 c = search needs
+  common : Common x y z × (field z + 1075 - (field x + field y) ≡ above)
+  common = is-common x y z above fields (c .before .before .wrapping-sub-u64 .ensures)
 
-add-wrapping-sub-u64-2 : tie.Need-add-wrapping-sub-u64-2
-add-wrapping-sub-u64-2 c = search needs
-
-wrapping-sub-u64-requires : tie.Need-wrapping-sub-u64-requires
-wrapping-sub-u64-requires c κs = search needs
-
-common-requires : tie.Need-common-requires
-common-requires c κs = search needs
-
-excess-requires : tie.Need-excess-requires
-excess-requires c κs = search needs
-
-sub-biased-sum : tie.Need-sub-biased-sum
-sub-biased-sum c = search needs
-
-biased-sum-requires : tie.Need-biased-sum-requires
-biased-sum-requires c κs = search needs
-
-long-requires : tie.Need-long-requires
-long-requires c κs = lt-of-lt-of-le (c .biased-sum .ensures .2) (lit≤ tt)
-
-add-converted : tie.Need-add-converted
-add-converted c = search needs
-
-add-converted-2 : tie.Need-add-converted-2
-add-converted-2 c = omega (arith, c .before .before .before .before .before .common .ensures (c .before .before .before .before .if4 .taken) .4, c .before .before .before .excess .ensures)
+-- and where the sum is converted
+abbrev shifted : tie.Then5 → tie.After-excess
+shifted c = c .before .before .before
 
 converted-requires : tie.Need-converted-requires
 converted-requires c κs =
-    let s = c .before .before .before .before .before .before .before .before .before .before .before .before .before in
-    let x = toBits binary64 (s .args .a) in
-    let y = toBits binary64 (s .args .b) in
-    let z = toBits binary64 (s .args .c) in
-    let n = c .before .before .before .before .before .before .wrapping-sub-u64 in
-    let k = c .before .before .before .before .before .common .ensures (c .before .before .before .before .if4 .taken) in
-    let w = is-common x y z (n .result) k (n .ensures) in
-    let o = c .before .before .before .excess in
-    let t = shift-room (n .result) (o .result) (o .ensures) (k .4) in
-    let f = common-fields x y z (w .0) in
-    (c .before .before .biased-sum .ensures .2, omega (arith, f .4), omega (arith, t, f .5))
+    let o = shifted c .excess in
+    let t = shifted c .before in
+    let room = shift-room (above t) (o .result) (o .ensures) (fields t .4) in
+    let f = common-fields (x t) (y t) (z t) (common t .0) in
+    (c .before .before .biased-sum .ensures .2, omega (arith, f .4), omega (arith, room, f .5))
 
 returns : tie.Need-returns
 returns c =
-    let s = c .before .before .before .before .before .before .before .before .before .before .before .before .before .before in
-    let x = toBits binary64 (s .args .a) in
-    let y = toBits binary64 (s .args .b) in
-    let z = toBits binary64 (s .args .c) in
-    let n = c .before .before .before .before .before .before .before .wrapping-sub-u64 in
-    let k = c .before .before .before .before .before .before .common .ensures (c .before .before .before .before .before .if4 .taken) in
-    let w = is-common x y z (n .result) k (n .ensures) in
-    let f = common-nonzero x y z (w .0) in
-    let o = c .before .before .before .before .excess in
-    let t = c .before .before .before .biased-sum in
-    let u = t .ensures .0 in
-    common-shifted x y z (n .result) (o .result) (t .result .high) (t .result .low) (u .0) (c .converted .result) (o .ensures) (w .0) (w .1) (k .4) (t .ensures .1) (u .1) (u .2) (c .converted .ensures)
-    (c .before .before .long .ensures (c .before .if5 .taken))
-    ∙ sym (by-bits (s .args .a) (s .args .b) (s .args .c) (held (s .good .0 .1)) (held (s .good .1 .0 .1)) (held (s .good .1 .1 .0 .1)) (f .0 .0) (f .1 .0) (f .2 .0))
-
-general-requires : tie.Need-general-requires
-general-requires c κs = search needs
-
-returns-2 : tie.Need-returns-2
-returns-2 c = search needs
+    let k = c .before in
+    let s = k .before .before .biased-sum in
+    let o = shifted k .excess in
+    let t = shifted k .before in
+    let a = start t .args in
+    let good = start t .good in
+    let u = s .ensures .0 in
+    let f = common-nonzero (x t) (y t) (z t) (common t .0) in
+    common-shifted (x t) (y t) (z t) (above t) (o .result) (s .result .high) (s .result .low) (u .0) (c .converted .result)
+    (o .ensures) (common t .0) (common t .1) (fields t .4) (s .ensures .1) (u .1) (u .2) (c .converted .ensures) (k .before .long .ensures (k .if5 .taken))
+    ∙ sym (by-bits (a .a) (a .b) (a .c) (held (good .0 .1)) (held (good .1 .0 .1)) (held (good .1 .1 .0 .1)) (f .0 .0) (f .1 .0) (f .2 .0))
 
 pub mul-add-spec : {M : Type 1} → statement M
 mul-add-spec =
     tie.close
     (tie.spec
-    number-requires
-    number-requires-2
-    number-requires-3
-    float-to-bits-x
-    float-to-bits-y
-    float-to-bits-z
-    add-wrapping-sub-u64
-    add-wrapping-sub-u64-2
-    wrapping-sub-u64-requires
-    common-requires
-    excess-requires
-    sub-biased-sum
-    biased-sum-requires
-    long-requires
-    add-converted
-    add-converted-2
+    (λ c κs. search needs)
+    (λ c κs. search needs)
+    (λ c κs. search needs)
+    (λ c. let first = c .before .before .before .before in held (sym (first .before .number .ensures) ∙ first .if1 .taken))
+    (λ c. let second = c .before .before in held (sym (second .before .number2 .ensures) ∙ second .if2 .taken))
+    (λ c. held (sym (c .before .number3 .ensures) ∙ c .if3 .taken))
+    (λ c. search needs)
+    (λ c. search needs)
+    (λ c κs. search needs)
+    (λ c κs. search needs)
+    (λ c κs. search needs)
+    (λ c. search needs)
+    (λ c κs. search needs)
+    (λ c κs. lt-of-lt-of-le (c .biased-sum .ensures .2) (lit≤ tt))
+    (λ c. search needs)
+    (λ c. omega (arith, fields (shifted c .before) .4, shifted c .excess .ensures))
     converted-requires
     returns
-    general-requires
-    returns-2)
+    (λ c κs. search needs)
+    (λ c. search needs))

@@ -1,5 +1,5 @@
 -- Assumes nothing.
-use Rattle.fused.proofs.Values.{number-test}
+use Rattle.law_rounding.proofs.NotNan.{number-test}
 use Rattle.fused.proofs.number.Statement.{statement}
 use Rattle.fused.proofs.number.Tie as tie
 

@@ -1,5 +1,6 @@
 -- `SplinePath::new` meets its contract: a walk of its MIR, by hand. A `SplinePath` is made of the record and the slice passed, in the result's local.
--- What the two parameters own together is what the struct's fields own together, by computation, and goes into the result: the contract says nothing of the parameters at exit (`Said.antt`).
+-- What the two parameters own together is what the struct's fields own together, by computation, and goes into the result: the contract says nothing of the
+-- parameters at exit (`Said.antt`).
 -- Assumes nothing.
 use mathlib.Core.Path.{refl}
 use mathlib.Core.List.{List, [], _∷_}
@@ -48,7 +49,8 @@ use Rattle.query_path.proofs.SplinePath.new.Code as code
 abbrev stayed : Stays (new.ended .signature .params) (new.ended .kept)
 stayed = said (new.ended .signature .params) (new.ended .kept)
 
-module _ {M : Type 1} (𝓤 : URA M) (H : Heap 𝓤) (A : Atoms 𝓤) (W : Given 𝓤 H A) (mem : Memory → SProp 𝓤) (run : Routine → Fun 𝓤) (κ : Lft) (q : Share) (d : PathRecord) (c : RefT (List Float)) where
+module _ {M : Type 1} (𝓤 : URA M) (H : Heap 𝓤) (A : Atoms 𝓤) (W : Given 𝓤 H A) (mem : Memory → SProp 𝓤) (run : Routine → Fun 𝓤) (κ : Lft) (q : Share)
+    (d : PathRecord) (c : RefT (List Float)) where
   abbrev α : NamedLft
   α = namedLft 1 0 tt (κ, tt)
 
@@ -74,19 +76,26 @@ module _ {M : Type 1} (𝓤 : URA M) (H : Heap 𝓤) (A : Atoms 𝓤) (W : Given
   exits : ent 𝓤 (onEntry 𝓤 H A new.signature (κ, tt) (q, tt) (d, (c, tt)) vals) (Post w)
   exits =
       qed W ((‵ (flft κ q) ⊛ ‵ ftrue) ∷ ‵ (owns (R.the-row ∷ ShrSlice (named 0) κ f64 ∷ []) (d, (c, tt)) vals) ∷ []) ∵
-      suffices ! _ (ends-at 𝓤 H A new.ended stayed (new.clauses 𝓤 H A mem run) W (((κ, tt), (q, tt), tt, (d, (c, tt)), vals), tt) w made (tt, (tt, tt)) (tt, (tt, tt))) $ says ! refl $
-      frame ! $ use1 W (‵ (T.the-row α .own made (w ∷ []))) (own-shut 𝓤 H A W (T.the-type α) (T′.the-laws α) (d, (c, tt))) $ nothing ! $ nothing ! $ nothing ! $ fjoin3 ! $ done !
+      suffices ! _
+      (ends-at 𝓤 H A new.ended stayed (new.clauses 𝓤 H A mem run) W (((κ, tt), (q, tt), tt, (d, (c, tt)), vals), tt) w made (tt, (tt, tt)) (tt, (tt, tt))) $
+      says ! refl $
+      frame ! $ use1 W (‵ (T.the-row α .own made (w ∷ []))) (own-shut 𝓤 H A W (T.the-type α) (T′.the-laws α) (d, (c, tt))) $ nothing ! $ nothing ! $ nothing ! $
+      fjoin3 ! $ done !
 
   module _ (C : Calls 𝓤 H) (Λ : Loops 𝓤 H) where
-    walk : Is R.the-row d (u ∷ []) → Is (ShrSlice (named 0) κ f64) c (v ∷ []) → ent 𝓤 (onEntry 𝓤 H A new.signature (κ, tt) (q, tt) (d, (c, tt)) vals) (WpFn 𝓤 H C Λ code.function (u ∷ v ∷ []) Post)
+    walk : Is R.the-row d (u ∷ []) → Is (ShrSlice (named 0) κ f64) c (v ∷ [])
+        → ent 𝓤 (onEntry 𝓤 H A new.signature (κ, tt) (q, tt) (d, (c, tt)) vals) (WpFn 𝓤 H C Λ code.function (u ∷ v ∷ []) Post)
     walk p r =
         qed W (raw (onEntry 𝓤 H A new.signature (κ, tt) (q, tt) (d, (c, tt)) vals) ∷ []) ∵ enter ! C Λ code.function (u ∷ v ∷ []) _ $
         alloc1 ! (λ l₀. alloc1 ! (λ l₁. alloc1 ! (λ l₂. alloc0 ! $ params1 ! $
-        pass1 ! (init ! 2 refl (LL.lawful R.the-type R′.the-laws 𝓤 H A W .typed d _ p .0)) $ pass1 ! (init ! 0 refl (shr-slice-lawful 𝓤 H A W (named 0) κ f64 .typed c (v ∷ []) r .0)) $ pass0 ! $
+        pass1 ! (init ! 2 refl (LL.lawful R.the-type R′.the-laws 𝓤 H A W .typed d _ p .0)) $
+        pass1 ! (init ! 0 refl (shr-slice-lawful 𝓤 H A W (named 0) κ f64 .typed c (v ∷ []) r .0)) $ pass0 ! $
         -- [_2; …; _1; …; room for _0; …; what the function is given]
-        assigns ! (agg ! (and-then ! (load ! (from ! (stop !)) (look ! 2 refl)) (and-then ! (load ! (from ! (stop !)) (look ! 0 refl)) (no-more !)))) (from ! (stop !))
+        assigns ! (agg ! (and-then ! (load ! (from ! (stop !)) (look ! 2 refl)) (and-then ! (load ! (from ! (stop !)) (look ! 0 refl)) (no-more !))))
+        (from ! (stop !))
         (init ! 4 refl (LL.lawful (T.the-type α) (T′.the-laws α) 𝓤 H A W .typed made _ (LL.owes (T.the-type α) (T′.the-laws α) made (p, (r, tt))) .0)) $
-        returns ! (look ! 4 refl) $ forget ! 0 refl $ forget ! 2 refl $ forget ! 4 refl $ move ! (4 ∷ 5 ∷ []) $ free1 ! $ move ! (2 ∷ 3 ∷ []) $ free1 ! $ free1 ! $ free0 ! $ by ! exits)))
+        returns ! (look ! 4 refl) $ forget ! 0 refl $ forget ! 2 refl $ forget ! 4 refl $ move ! (4 ∷ 5 ∷ []) $ free1 ! $ move ! (2 ∷ 3 ∷ []) $ free1 ! $
+        free1 ! $ free0 ! $ by ! exits)))
 
 module _ {M : Type 1} (𝓤 : URA M) (H : Heap 𝓤) (A : Atoms 𝓤) (W : Given 𝓤 H A) (mem : Memory → SProp 𝓤) (run : Routine → Fun 𝓤) where
   new-walks : (C : Calls 𝓤 H) (Λ : Loops 𝓤 H) → Walks 𝓤 H A new.ended stayed (WpFn 𝓤 H C Λ code.function) (new.clauses 𝓤 H A mem run)

@@ -1,0 +1,3 @@
+pub mod WholePart
+pub mod Scaled
+pub mod Answer
