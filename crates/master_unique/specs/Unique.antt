@@ -15,7 +15,7 @@ use Rattle.rules.specs.Build.{BuildInput, buildNumber}
 use Rattle.rules.specs.Master.{MasterSet, setOf, within, checkMaster, masterSays}
 use Rattle.theorems.specs.Exact.{WholeTwoPoints, axisSet}
 
--- D3, M11: of any two sets. The check says yes to none whose order is not 3, 5 or 7.
+-- Demand 3, of any two sets. The check says yes to none whose order is not 3, 5 or 7.
 unfoldable pub MastersAreUnique : Type 0
 MastersAreUnique =
     (s t : MasterSet) → s .order ≡ t .order → T (checkMaster s .good) → T (checkMaster t .good)

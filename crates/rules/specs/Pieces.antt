@@ -69,7 +69,7 @@ buildOf s =
 unfoldable pub exactly : Float → Float → Bool
 exactly x y = eqb (toBits binary64 x) (toBits binary64 y)
 
--- P2: "In a to h a plain 0 is either zero"
+-- "In a to h a plain 0 is either zero"
 unfoldable pub alike : Float → Float → Bool
 alike x y = exactly x y || (eq x +0 && eq y +0)
 
@@ -139,7 +139,6 @@ greatest negative = fin negative (2 ^ 53 - 1) (pos 971)
 
 -- ---- the starred pieces
 
--- P1: "Those with a star are the proved set."
 unfoldable pub starred : List Piece
 starred =
     -- a
@@ -174,12 +173,12 @@ starred =
 
 unfoldable pub further : List Piece
 further =
-    -- P3: piece m, range 0 to 49, points 0 1, s 49: tau 1 − 2^−53, not 1; Clamp with s 60 the same
+    -- m: range 0 to 49, points 0 1, s 49: tau 1 − 2^−53, not 1; Clamp with s 60 the same
     found (atRest 3 49 (0 ∷ 1 ∷ [])) (ofCount 49) 0 ((2 ^ 53 - 1) ÷2^ 53) ∷
     found (curve 3 49 (0 ∷ 1 ∷ []) None [] Clamp) (ofCount 60) 0 ((2 ^ 53 - 1) ÷2^ 53) ∷
-    -- P4: piece n, range 0 to 2, points 0 1, order 3, start 3 per unit of s: coefficient 1 is 6
+    -- n: range 0 to 2, points 0 1, order 3, start 3 per unit of s: coefficient 1 is 6
     built (curve 3 2 (0 ∷ 1 ∷ []) (Given 1 1 true) (3 ∷ []) Error) (ofInts (pos 0 ∷ pos 6 ∷ neg 9 ∷ pos 4 ∷ [])) ∷
-    -- P5: piece o, all but the 257 points that are accepted: one more gives 2; 1 point 304; order 4 with 1 point 302; s NaN 305 in both modes;
+    -- o, all but the 257 points that are accepted: one more gives 2; 1 point 304; order 4 with 1 point 302; s NaN 305 in both modes;
     -- state number 2^40 + 1 in a check 4
     answered (buildNumber (atRest 3 1 (replicate 258 0)) (tableLength 1 257 3)) 2 ∷
     answered (buildNumber (atRest 3 1 (0 ∷ [])) 0) 304 ∷

@@ -55,7 +55,7 @@ pub record Exact (part : List Float) (s : MasterSet) : Type 0 where
   -- "The check says yes to each axis whose coefficients are within ±2^40 too; otherwise it gives 4."
   pub check : checkMaster s ≡ masterSays (cond (all within (s .table)) Yes (Refused 4))
 
--- D2b, R32, R33: the theorem: a build, accepted into a buffer of so many cells
+-- the theorem: a build, accepted into a buffer of so many cells
 unfoldable pub TwoPointsAreExact : Type 0
 TwoPointsAreExact =
     (b : BuildInput) (cells axis : ℕ) → buildNumber b cells ≡ 0 → WholeTwoPoints b → axis < b .axes → Exact (axisPart b axis) (axisSet b axis)
