@@ -17,7 +17,7 @@ use Rattle.rules.specs.Tables.{mOf}
 use Rattle.rules.specs.Build.{BuildInput, validAxes, validState, inputQuestions, acceptedRecord, axisWaypoints, axisState, table}
 use Rattle.rules.proofs.Questions.{answerAt, said-yes}
 use Rattle.rules.proofs.Build.{by-order, coefficient-count}
-use Rattle.rules.proofs.Filling.{joined-ext}
+use Rattle.law_lists.proofs.Filling.{joined-ext}
 use Rattle.build_segments.specs.declared.Plan.{Plan}
 use Rattle.build_segments.specs.Given.{HasNumbers, Planned}
 use Rattle.build_axes.specs.AllAxes.{allAxes}

@@ -13,7 +13,7 @@ use rules::PathParam;
 use rules::PathRecord;
 use rules::SplineConfig;
 
-// "A refusal returns its number and the all-zero record with mode Error".
+// B15: "A refusal returns its number and the all-zero record with mode Error".
 fn refused(number: u32) -> BuildAnswer
     ensures { λ r. ⌜ r ≡ record { number = number; path = refusedRecord } ⌝ }
 {
@@ -53,7 +53,7 @@ fn accepted(config: SplineConfig, points: usize, axes: usize) -> PathRecord
     }
 }
 
-// The build. Every call is answered: 0 with the path's record, and the buffer holds the coefficients, by axis, then
+// A1, D1, B13, B14, B16: the build. Every call is answered: 0 with the path's record, and the buffer holds the coefficients, by axis, then
 // segment, then power; or the number of the first question that says no, and the buffer is as it was.
 pub fn from_waypoints_view(
     config: SplineConfig,
@@ -96,7 +96,7 @@ pub fn from_waypoints_view(
     };
     let ok = build_table::fill(plan, waypoints, start, end, coeffs);
     if !ok {
-        return refused(307);
+        return refused(307); // B10
     }
     BuildAnswer { number: 0, path }
 }

@@ -2,7 +2,7 @@
 use Prim.Native.Nat.{ℕ}
 use mathlib.Core.List.{List}
 use lib.Ieee.{Float}
-use Rattle.rules.specs.Lists.{joined}
+use Rattle.law_lists.specs.Lists.{joined}
 use Rattle.rules.specs.Build.{axisCoefficients}
 use Rattle.build_segments.specs.declared.Plan.{Plan}
 use Rattle.build_segments.specs.declared.tables.BlockMatrices.{BlockMatrices}

@@ -11,7 +11,7 @@ ghost use Rattle.build_axes.specs.AllAxes.{Shared, allAxes};
 use build_segments::Plan;
 use build_segments::tables::BlockMatrices;
 
-// All axes, one after the other, in the place of what the buffer held.
+// B14: all axes, one after the other, in the place of what the buffer held.
 fn fill_axes(
     plan: Plan,
     tables: BlockMatrices,
@@ -52,7 +52,7 @@ fn fill_axes(
     }
 }
 
-// Question 10, and where it says yes the table: the nodes' matrices are factored once, for all axes, into
+// B10, B16: question 10, and where it says yes the table: the nodes' matrices are factored once, for all axes, into
 // the lists that are lent for them, before the first cell is written.
 pub fn solve_general_thomas(
     plan: Plan,

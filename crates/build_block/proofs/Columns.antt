@@ -8,12 +8,13 @@ use lib.ListN.{length, take, drop, length-drop}
 use lib.Seq.{length-take-le}
 use lib.Ieee.{Float}
 use Rattle.rules.specs.Floats.{_!_, +0}
-use Rattle.rules.specs.Lists.{joined}
+use Rattle.law_lists.specs.Lists.{joined}
 use Rattle.rules.specs.Solve.{Factored, matrix, solve, column, solveMatrix}
-use Rattle.rules.proofs.Filling.{listed-at, listed-ext, listed-of, joined-ext, matrix-at, matrix-ext}
+use Rattle.law_lists.proofs.Filling.{listed-at, listed-ext, listed-of, joined-ext}
+use Rattle.rules.proofs.Matrices.{matrix-at, matrix-ext}
 use Rattle.rules.proofs.Solve.{length-solve}
 use Rattle.build_block.specs.Columns.{transposed}
-use Rattle.rules.proofs.Lists.{part-inside}
+use Rattle.law_lists.proofs.Lists.{part-inside}
 use Rattle.rules.proofs.Cells.{part-cell}
 use Rattle.build_block.proofs.Transposed.{transposed-at}
 

@@ -7,7 +7,8 @@ use lib.ListN.{length, take, drop}
 use lib.Ieee.{Float}
 use Rattle.rules.specs.Floats.{_⊗_, _!_, +0, sumOf}
 use Rattle.rules.specs.Solve.{entry, times}
-use Rattle.rules.proofs.Filling.{listed-at, matrix-at, matrix-ext, matrix-of, length-matrix}
+use Rattle.law_lists.proofs.Filling.{listed-at}
+use Rattle.rules.proofs.Matrices.{matrix-at, matrix-ext, matrix-of, length-matrix}
 use Rattle.build_block.specs.Columns.{transposed, ByRows, ByColumns}
 use Rattle.rules.proofs.Cells.{part-cell}
 use Rattle.build_block.proofs.Sums.{sumOf-ext}

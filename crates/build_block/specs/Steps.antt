@@ -7,7 +7,7 @@ use lib.ListN.{length}
 use lib.Dec.{leb, ltb, eqb}
 use lib.Ieee.{Float}
 use Rattle.rules.specs.Floats.{_⊖_, _⊗_, _⊘_, _!_}
-use Rattle.rules.specs.Lists.{listed}
+use Rattle.law_lists.specs.Lists.{listed}
 use Rattle.rules.specs.Solve.{entry}
 use Rattle.build_block.specs.Columns.{Below}
 

@@ -6,7 +6,7 @@ ghost use Rattle.rules.specs.Floats.{_⊗_, _!_, sumOf};
 ghost use Rattle.rules.specs.Solve.{times, minus};
 ghost use Rattle.build_block.specs.Columns.{transposed};
 
-// The sum of m products: the numbers of a from `at` on, each `step` behind the one before, times those of v.
+// R3: the sum of m products: the numbers of a from `at` on, each `step` behind the one before, times those of v.
 pub fn dot(m: usize, a: &[f64], at: usize, step: usize, v: &[f64]) -> f64
     requires { ⌜ (1 ≤ m) × (at + (m * step) < length (now a) + step) × (length (now v) ≡ m) ⌝ }
     ensures { λ r. ⌜ r ≡ sumOf m (λ j. now (a .entry) ! (at + j * step) ⊗ now (v .entry) ! j) ⌝ }

@@ -4,7 +4,7 @@ ghost use mathlib.Core.Path.{_≡_};
 ghost use Prim.Native.Nat.{_*_, _<_};
 ghost use lib.ListN.{length, getD};
 ghost use Rattle.rules.specs.Floats.{_!_};
-ghost use Rattle.rules.specs.Lists.{listed};
+ghost use Rattle.law_lists.specs.Lists.{listed};
 ghost use Rattle.rules.specs.Solve.{forward, solve, solveMatrix};
 ghost use Rattle.build_block.specs.Columns.{transposed, Below};
 ghost use Rattle.build_block.specs.Steps.{Solvable, forwardStep, backwardStep};
@@ -21,7 +21,7 @@ fn permuted(rows: &[usize], b: &[f64], out: &mut [f64])
     }
 }
 
-// The number of row k is found: its products are subtracted from the rows below.
+// R16, R18: the number of row k is found: its products are subtracted from the rows below.
 fn forward_step(m: usize, entries: &[f64], k: usize, y: &mut [f64])
     requires { ⌜ (length (now entries) ≡ m * m) × (k < m) × (length (now y) ≡ m) ⌝ }
     ensures { λ r. ⌜ now (y .exit) ≡ forwardStep m (now (entries .entry)) (now (y .entry)) k ⌝ }
@@ -34,7 +34,7 @@ fn forward_step(m: usize, entries: &[f64], k: usize, y: &mut [f64])
     }
 }
 
-// "Solve forward from the first row".
+// R16: "Solve forward from the first row".
 fn forward(m: usize, entries: &[f64], rows: &[usize], b: &[f64], y: &mut [f64])
     requires { ⌜ Solvable m (now entries) (now rows) (now b) (now y) ⌝ }
     ensures { λ r. ⌜ now (y .exit) ≡ forward m (record { entries = now (entries .entry); rows = now (rows .entry) }) (now (b .entry)) m ⌝ }
@@ -47,7 +47,7 @@ fn forward(m: usize, entries: &[f64], rows: &[usize], b: &[f64], y: &mut [f64])
     }
 }
 
-// Row k is solved by division, and its products are subtracted from the rows above.
+// R17, R18: row k is solved by division, and its products are subtracted from the rows above.
 fn backward_step(m: usize, entries: &[f64], k: usize, y: &mut [f64])
     requires { ⌜ (length (now entries) ≡ m * m) × (k < m) × (length (now y) ≡ m) ⌝ }
     ensures { λ r. ⌜ now (y .exit) ≡ backwardStep m (now (entries .entry)) (now (y .entry)) k ⌝ }
@@ -61,7 +61,7 @@ fn backward_step(m: usize, entries: &[f64], k: usize, y: &mut [f64])
     y[k] = x;
 }
 
-// "then back from the last by division": m numbers solved, from b into y.
+// R17: "then back from the last by division": m numbers solved, from b into y.
 pub fn solve(m: usize, entries: &[f64], rows: &[usize], b: &[f64], y: &mut [f64])
     requires { ⌜ Solvable m (now entries) (now rows) (now b) (now y) ⌝ }
     ensures { λ r. ⌜ now (y .exit) ≡ solve m (record { entries = now (entries .entry); rows = now (rows .entry) }) (now (b .entry)) ⌝ }
@@ -75,7 +75,7 @@ pub fn solve(m: usize, entries: &[f64], rows: &[usize], b: &[f64], y: &mut [f64]
     }
 }
 
-// A matrix solved, column by column, from c into out; both are kept by columns.
+// R10: a matrix solved, column by column, from c into out; both are kept by columns.
 pub fn solve_matrix(m: usize, entries: &[f64], rows: &[usize], c: &[f64], out: &mut [f64])
     requires { ⌜ (length (now entries) ≡ m * m) × (length (now rows) ≡ m) × Below m (now rows) × (length (now c) ≡ m * m) × (length (now out) ≡ m * m) ⌝ }
     ensures { λ r. ⌜ now (out .exit) ≡ transposed m (solveMatrix m (record { entries = now (entries .entry); rows = now (rows .entry) }) (transposed m (now (c .entry)))) ⌝ }

@@ -10,10 +10,12 @@ use lib.ListN.{length, getD, set}
 use lib.Ieee.{Float, nan}
 use Rattle.rules.specs.Floats.{_!_, _⊖_, _⊗_, _⊘_, +0, +1}
 use Rattle.rules.specs.Solve.{entry, matrix, Factored, eliminated}
-use Rattle.rules.proofs.Filling.{filled, flat, flat-at, filled-set, filled-at, filled-past, filled-on, filled-start, filled-all, matrix-flat}
+use Rattle.law_lists.proofs.Filling.{filled, flat, flat-at, filled-set, filled-at, filled-past, filled-on, filled-start, filled-all}
+use Rattle.rules.proofs.Matrices.{matrix-flat}
 use Rattle.build_factoring.specs.Steps.{eliminatedEntry, eliminatedTo}
-use Rattle.rules.proofs.Lists.{part-inside}
-use Rattle.rules.proofs.Cells.{cell-inside, read}
+use Rattle.law_lists.proofs.Lists.{part-inside}
+use Rattle.law_lists.proofs.Places.{cell-inside}
+use Rattle.rules.proofs.Cells.{read}
 
 -- the rows at and above k stay
 stays-above : (m k : ℕ) (reciprocal : Float) (b : List Float) (i j : ℕ) → i ≤ k → eliminatedEntry m k reciprocal b i j ≡ entry m b i j

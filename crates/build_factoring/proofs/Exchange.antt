@@ -11,11 +11,13 @@ use lib.ListN.{length, getD, set, length-set}
 use lib.Seq.{ext-getD, getD-set-same, getD-set-other}
 use lib.Ieee.{Float, nan}
 use Rattle.rules.specs.Floats.{_!_, +0}
-use Rattle.rules.specs.Lists.{listed}
+use Rattle.law_lists.specs.Lists.{listed}
 use Rattle.rules.specs.Solve.{entry, matrix, exchange}
-use Rattle.rules.proofs.Lists.{length-listed}
-use Rattle.rules.proofs.Filling.{listed-at, lt-or-le, matrix-of, matrix-at, matrix-ext}
-use Rattle.rules.proofs.Cells.{cell-inside, place-same, entry-read}
+use Rattle.law_lists.proofs.Lists.{length-listed}
+use Rattle.law_lists.proofs.Filling.{listed-at, lt-or-le}
+use Rattle.rules.proofs.Matrices.{matrix-of, matrix-at, matrix-ext}
+use Rattle.law_lists.proofs.Places.{cell-inside, place-same}
+use Rattle.rules.proofs.Cells.{entry-read}
 
 same-or-not : (i j : ℕ) → (i ≡ j) ⊎ (i ≡ j → ⊥)
 same-or-not i j = go (eqb i j) refl

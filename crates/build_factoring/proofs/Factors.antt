@@ -7,10 +7,11 @@ use native.Mathlib.Numerals.{add-one}
 use native.Mathlib.Omega.{arith}
 use lib.ListN.{length, getD}
 use lib.Ieee.{Float, lt}
-use Rattle.rules.specs.Lists.{listed}
+use Rattle.law_lists.specs.Lists.{listed}
 use Rattle.rules.specs.Solve.{entry, matrix, pivotRow, exchange, exchanged, eliminated, factorSteps, factor}
-use Rattle.rules.proofs.Lists.{length-listed}
-use Rattle.rules.proofs.Filling.{listed-at, length-matrix}
+use Rattle.law_lists.proofs.Lists.{length-listed}
+use Rattle.law_lists.proofs.Filling.{listed-at}
+use Rattle.rules.proofs.Matrices.{length-matrix}
 use Rattle.build_factoring.proofs.Exchange.{exchange-below}
 
 pivot-below : (m : ℕ) (a : List Float) (k d : ℕ) → k + d < m → pivotRow m a k d < m

@@ -6,7 +6,7 @@ use lib.ListN.{drop}
 use lib.Dec.{leb, ltb, eqb}
 use lib.Ieee.{Float}
 use Rattle.rules.specs.Floats.{_⊖_, _⊗_}
-use Rattle.rules.specs.Lists.{listed}
+use Rattle.law_lists.specs.Lists.{listed}
 use Rattle.rules.specs.Solve.{entry}
 
 -- an entry after the elimination below row k, with the reciprocal of the pivot

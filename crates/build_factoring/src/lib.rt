@@ -6,7 +6,7 @@ ghost use mathlib.Core.List.{List, []};
 ghost use lib.ListN.{length, getD};
 ghost use lib.Ieee.{Float};
 ghost use Rattle.rules.specs.Floats.{magnitude};
-ghost use Rattle.rules.specs.Lists.{listed};
+ghost use Rattle.law_lists.specs.Lists.{listed};
 ghost use Rattle.build_factoring.specs.Steps.{eliminatedTo};
 ghost use Rattle.rules.specs.Solve.{entry, pivotRow, exchange, matrix, eliminated, factor, nonzeroPivots};
 
@@ -23,7 +23,7 @@ fn magnitude(x: f64) -> f64
     }
 }
 
-// "greatest magnitude at or below the diagonal, first of equals": its row.
+// R12: "greatest magnitude at or below the diagonal, first of equals": its row.
 fn pivot_row(m: usize, a: &[f64], k: usize) -> usize
     requires { ⌜ (k < m) × (length (now a) ≡ m * m) ⌝ }
     ensures { λ r. ⌜ (r ≡ pivotRow m (now (a .entry)) k (m - suc k)) × (k ≤ r) × (r < m) ⌝ }
@@ -39,7 +39,7 @@ fn pivot_row(m: usize, a: &[f64], k: usize) -> usize
     best
 }
 
-// The entries of the rows k and p exchanged.
+// R13: the entries of the rows k and p exchanged.
 fn exchange_entries(m: usize, a: &mut [f64], k: usize, p: usize)
     requires { ⌜ (k < m) × (p < m) × (length (now a) ≡ m * m) ⌝ }
     ensures { λ r. ⌜ now (a .exit) ≡ matrix m m (λ i j. entry m (now (a .entry)) (exchange k p i) j) ⌝ }
@@ -53,7 +53,7 @@ fn exchange_entries(m: usize, a: &mut [f64], k: usize, p: usize)
     }
 }
 
-// The numbers at k and p of the list of rows exchanged.
+// R13: the numbers at k and p of the list of rows exchanged.
 fn exchange_rows(rows: &mut [usize], k: usize, p: usize)
     requires { ⌜ (k < length (now rows)) × (p < length (now rows)) ⌝ }
     ensures { λ r. ⌜ now (rows .exit) ≡ listed (length (now (rows .entry))) (λ i. getD (now (rows .entry)) (exchange k p i) 0) ⌝ }
@@ -63,7 +63,7 @@ fn exchange_rows(rows: &mut [usize], k: usize, p: usize)
     rows[p] = x;
 }
 
-// Row i past row k: the multiplier takes the place of the entry in column k, and what it comes to is
+// R14, R15: row i past row k: the multiplier takes the place of the entry in column k, and what it comes to is
 // subtracted from the entries to the right. Whatever matrix b was done in the rows before i, is then
 // done in row i too.
 fn eliminate_row(m: usize, a: &mut [f64], k: usize, i: usize, reciprocal: f64)
@@ -79,7 +79,7 @@ fn eliminate_row(m: usize, a: &mut [f64], k: usize, i: usize, reciprocal: f64)
     }
 }
 
-// "multipliers are entry times the rounded reciprocal of the pivot": one division for the column.
+// R14: "multipliers are entry times the rounded reciprocal of the pivot": one division for the column.
 fn eliminate(m: usize, a: &mut [f64], k: usize)
     requires { ⌜ (k < m) × (length (now a) ≡ m * m) ⌝ }
     ensures { λ r. ⌜ now (a .exit) ≡ eliminated m k (record { entries = now (a .entry); rows = [] }) .entries ⌝ }
@@ -103,7 +103,7 @@ fn identity(rows: &mut [usize])
     }
 }
 
-// Whether every pivot, which is an entry on the diagonal, is other than zero.
+// B10: whether every pivot, which is an entry on the diagonal, is other than zero.
 fn nonzero_pivots(m: usize, a: &[f64]) -> bool
     requires { ⌜ length (now a) ≡ m * m ⌝ }
     ensures { λ r. ⌜ r ≡ nonzeroPivots m (record { entries = now (a .entry); rows = [] }) ⌝ }

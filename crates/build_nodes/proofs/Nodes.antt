@@ -8,12 +8,13 @@ use lib.Ieee.{Float}
 use Rattle.rules.specs.Floats.{_⊖_, _!_}
 use Rattle.rules.specs.Tables.{A, B, C}
 use Rattle.rules.specs.Solve.{Factored, entry, matrix, column, factor, solve, solveMatrix, nodeMatrix, nodeFactors, solvedC}
-use Rattle.rules.proofs.Filling.{listed-ext, matrix-ext, length-matrix, parts-at}
+use Rattle.law_lists.proofs.Filling.{listed-ext, parts-at}
+use Rattle.rules.proofs.Matrices.{matrix-ext, length-matrix}
 use Rattle.build_block.specs.Columns.{transposed, HoldsA, HoldsB}
 use Rattle.build_nodes.specs.NodeLists.{nodeSolved}
 use Rattle.build_nodes.specs.Steps.{nextEntry, SolvedTo}
 use Rattle.build_factoring.proofs.Factors.{length-factor, length-rows}
-use Rattle.rules.proofs.Parts.{Parted}
+use Rattle.law_lists.proofs.PartedList.{Parted}
 use Rattle.build_block.proofs.Sums.{sumOf-ext}
 use Rattle.build_block.proofs.Transposed.{transposed-at, length-transposed}
 

@@ -3,7 +3,7 @@ use Prim.Native.Nat.{ℕ, _*_, _≤_}
 use mathlib.Core.List.{List}
 use lib.ListN.{length}
 use lib.Ieee.{Float}
-use Rattle.rules.specs.Lists.{joined}
+use Rattle.law_lists.specs.Lists.{joined}
 use Rattle.rules.specs.Solve.{nodeFactors, solvedC}
 use Rattle.build_block.specs.Columns.{transposed}
 

@@ -5,14 +5,14 @@ ghost use mathlib.Core.Path.{_≡_};
 ghost use Prim.Native.Nat.{_+_, _*_, _≤_, _<_};
 ghost use mathlib.Core.List.{_++_};
 ghost use lib.ListN.{length, drop};
-ghost use Rattle.rules.specs.Lists.{listed};
+ghost use Rattle.law_lists.specs.Lists.{listed};
 ghost use Rattle.rules.specs.Solve.{matrix, nodeMatrix, nodeFactors, nonzeroPivots};
 ghost use Rattle.rules.specs.Build.{everyPivot};
 ghost use Rattle.build_block.specs.Columns.{transposed, HoldsA, HoldsB, HoldsC};
 ghost use Rattle.build_nodes.specs.NodeLists.{Room, nodeEntries, nodeRows, nodeSolved};
 ghost use Rattle.build_nodes.specs.Steps.{nextEntry, SolvedTo};
 
-// Row r of the matrix of an inner node past the first.
+// R9: row r of the matrix of an inner node past the first.
 fn node_row(m: usize, r: usize, a: &[f64], b: &[f64], previous: &[f64], out: &mut [f64])
     requires { ⌜ (r < m)
         × (length (now a) ≡ m * m)
@@ -47,7 +47,7 @@ fn node_matrix(m: usize, a: &[f64], b: &[f64], previous: &[f64], out: &mut [f64]
     }
 }
 
-// The matrix of inner node i. Past the first it takes solved C of the node before.
+// R9: the matrix of inner node i. Past the first it takes solved C of the node before.
 fn node_entries(m: usize, i: usize, a: &[f64], b: &[f64], solved: &[f64], out: &mut [f64])
     requires { ⌜ HoldsA m (now a)
         × HoldsB m (now b)
@@ -63,7 +63,7 @@ fn node_entries(m: usize, i: usize, a: &[f64], b: &[f64], solved: &[f64], out: &
     node_matrix(m, a, b, &solved[before..before + m * m], out);
 }
 
-// Inner node i is factored, and C is solved with it. Whether no pivot is zero.
+// R10, B10: inner node i is factored, and C is solved with it. Whether no pivot is zero.
 fn factor_node(
     m: usize,
     i: usize,
@@ -93,7 +93,7 @@ fn factor_node(
     ok
 }
 
-// The inner nodes 0 to n − 1, one after the other. Whether no pivot of any is zero.
+// B10: the inner nodes 0 to n − 1, one after the other. Whether no pivot of any is zero.
 pub fn factor_nodes(
     m: usize,
     n: usize,

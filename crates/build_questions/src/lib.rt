@@ -4,13 +4,13 @@
 ghost use mathlib.Core.Path.{_≡_};
 ghost use Prim.Native.Nat.{_≤_};
 ghost use Rattle.rules.specs.Floats.{finite};
-ghost use Rattle.rules.specs.Lists.{all};
+ghost use Rattle.law_lists.specs.Lists.{all};
 ghost use Rattle.rules.specs.Questions.{firstNo};
 ghost use Rattle.rules.specs.Build.{inputOf, validState, finiteState, inputQuestions};
 use rules::BoundaryState;
 use rules::SplineConfig;
 
-// Question 6, of a state with so many numbers beside it.
+// B6: of a state with so many numbers beside it.
 fn valid_state(axes: usize, m: usize, state: BoundaryState, numbers: &[f64]) -> bool
     requires { ⌜ (axes ≤ 8) × (m ≤ 3) ⌝ }
     ensures { λ r. ⌜ r ≡ validState axes m state (now (numbers .entry)) ⌝ }
@@ -33,7 +33,7 @@ fn valid_state(axes: usize, m: usize, state: BoundaryState, numbers: &[f64]) -> 
     }
 }
 
-// Question 9, of a list.
+// B9: of a list.
 fn all_finite(numbers: &[f64]) -> bool
     ensures { λ r. ⌜ r ≡ all finite (now (numbers .entry)) ⌝ }
 {
@@ -47,7 +47,7 @@ fn all_finite(numbers: &[f64]) -> bool
     true
 }
 
-// Question 9, of a state.
+// B9: of a state.
 fn finite_state(state: BoundaryState, numbers: &[f64]) -> bool
     ensures { λ r. ⌜ r ≡ finiteState state (now (numbers .entry)) ⌝ }
 {
@@ -61,7 +61,7 @@ fn finite_state(state: BoundaryState, numbers: &[f64]) -> bool
     }
 }
 
-// The number of the first no, and 0 where all nine say yes.
+// G4: the number of the first no, and 0 where all nine say yes.
 pub fn build_questions(
     config: SplineConfig,
     points: usize,
@@ -80,45 +80,45 @@ pub fn build_questions(
     let s_min = config.s_min;
     let s_max = config.s_max;
     if !questions::valid_order(order) {
-        return 302; // question 1
+        return 302; // B1
     }
     if points < 2 {
-        return 304; // question 2
+        return 304; // B2
     }
     if 257 < points {
-        return 2; // question 3
+        return 2; // B3
     }
     if axes < 1 { // no axis
-        return 300; // question 4, too few
+        return 300; // B4: too few
     }
     if 8 < axes {
-        return 300; // question 4, too many
+        return 300; // B4: too many
     }
     if waypoints.len() != axes * points {
-        return 3; // question 5
+        return 3; // B5
     }
     let m = (order - 1) / 2;
     if !valid_state(axes, m, start_state, start) {
-        return 303; // question 6, of the start
+        return 303; // B6: of the start
     }
     if !valid_state(axes, m, end_state, end) {
-        return 303; // question 6, of the end
+        return 303; // B6: of the end
     }
     let segments = points - 1;
     if cells != axes * segments * (order + 1) {
-        return 2; // question 7
+        return 2; // B7
     }
     if !questions::valid_range(segments, s_min, s_max) {
-        return 301; // question 8
+        return 301; // B8
     }
     if !all_finite(waypoints) {
-        return 4; // question 9, of the waypoints
+        return 4; // B9: of the waypoints
     }
     if !finite_state(start_state, start) {
-        return 4; // question 9, of the start
+        return 4; // B9: of the start
     }
     if !finite_state(end_state, end) {
-        return 4; // question 9, of the end
+        return 4; // B9: of the end
     }
     0 // every question says yes
 }

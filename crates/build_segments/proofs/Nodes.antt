@@ -9,8 +9,8 @@ use borrow.Author.Tests.{lt-ltb, le-ltb}
 use lib.ListN.{length, take, drop, length-drop}
 use lib.Seq.{length-take-le}
 use lib.Ieee.{Float}
-use Rattle.rules.proofs.Lists.{part-inside}
-use Rattle.rules.proofs.Filling.{lt-or-le}
+use Rattle.law_lists.proofs.Lists.{part-inside}
+use Rattle.law_lists.proofs.Filling.{lt-or-le}
 use Rattle.build_segments.specs.NodeNumbers.{nodePart}
 
 module _ (m n : ℕ) (boundary solved : List Float) where

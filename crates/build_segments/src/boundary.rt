@@ -2,13 +2,13 @@
 ghost use mathlib.Core.Path.{_≡_};
 ghost use Prim.Native.Nat.{_+_, _≤_, _<_};
 ghost use lib.ListN.{length};
-ghost use Rattle.rules.specs.Lists.{listed};
+ghost use Rattle.law_lists.specs.Lists.{listed};
 ghost use Rattle.rules.specs.Build.{divided, boundaryNumber};
 ghost use Rattle.build_segments.specs.Given.{HasNumbers, BothEnds};
 use crate::Plan;
 use rules::BoundaryState;
 
-// x divided so many times, one division after another.
+// R20: x divided so many times, one division after another.
 fn divided(times: usize, x: f64, by: f64) -> f64
     ensures { λ r. ⌜ r ≡ divided times x by ⌝ }
 {
@@ -21,7 +21,7 @@ fn divided(times: usize, x: f64, by: f64) -> f64
     y
 }
 
-// Column r of an axis of a state: zero where the state is none, and in segment units where it is marked
+// R19, R20, B12: column r of an axis of a state: zero where the state is none, and in segment units where it is marked
 // per unit of s.
 fn boundary_number(
     axes: usize,

@@ -3,13 +3,13 @@ ghost use mathlib.Core.Path.{_≡_};
 ghost use Prim.Native.Nat.{suc, _+_, _*_, _≤_, _<_};
 ghost use lib.ListN.{length};
 ghost use Rattle.rules.specs.Floats.{_⊗_, _⊕_, _⊖_, _!_};
-ghost use Rattle.rules.specs.Lists.{listed};
+ghost use Rattle.law_lists.specs.Lists.{listed};
 ghost use Rattle.rules.specs.Solve.{entry};
 ghost use Rattle.rules.specs.Build.{upperCoefficient, segmentCoefficients};
 ghost use Rattle.build_block.specs.Columns.{HoldsH};
 ghost use Rattle.build_segments.specs.NodeNumbers.{nodePart};
 
-// Waypoint p of an axis: "Waypoints are column-major, axes by points".
+// B11: waypoint p of an axis: "Waypoints are column-major, axes by points".
 pub fn waypoint(axes: usize, waypoints: &[f64], axis: usize, p: usize) -> f64
     requires { ⌜ p * axes + axis < length (now waypoints) ⌝ }
     ensures { λ r. ⌜ r ≡ now (waypoints .entry) ! (p * axes + axis) ⌝ }
@@ -17,7 +17,7 @@ pub fn waypoint(axes: usize, waypoints: &[f64], axis: usize, p: usize) -> f64
     waypoints[p * axes + axis]
 }
 
-// "dy = right minus left waypoint", of segment i.
+// R1: "dy = right minus left waypoint", of segment i.
 pub fn dy(axes: usize, waypoints: &[f64], axis: usize, i: usize) -> f64
     requires { ⌜ (axis < axes) × (suc i * axes + axis < length (now waypoints)) ⌝ }
     ensures { λ r. ⌜ r ≡ now (waypoints .entry) ! (suc i * axes + axis) ⊖ now (waypoints .entry) ! (i * axes + axis) ⌝ }
@@ -25,7 +25,7 @@ pub fn dy(axes: usize, waypoints: &[f64], axis: usize, i: usize) -> f64
     waypoint(axes, waypoints, axis, i + 1) - waypoint(axes, waypoints, axis, i)
 }
 
-// "R[·,0] × dy before + R[·,1] × dy after".
+// R5: "R[·,0] × dy before + R[·,1] × dy after".
 pub fn compute_rhs(m: usize, r: &[f64], dy_prev: f64, dy_next: f64, out: &mut [f64])
     requires { ⌜ (length (now r) ≡ m * 2) × (length (now out) ≡ m) ⌝ }
     ensures { λ x. ⌜ now (out .exit)
@@ -38,7 +38,7 @@ pub fn compute_rhs(m: usize, r: &[f64], dy_prev: f64, dy_next: f64, out: &mut [f
     }
 }
 
-// The m numbers of node i: a part of the boundary numbers, which are the first node's and then the last's, or of
+// F5: the m numbers of node i: a part of the boundary numbers, which are the first node's and then the last's, or of
 // the solved list, without copying.
 pub fn node_numbers<'a>(
     m: usize,
@@ -62,7 +62,7 @@ pub fn node_numbers<'a>(
     &solved[at..at + m]
 }
 
-// "Upper coefficient i = (H[i,0] × dy + P) + Q": the m + 1 of a segment.
+// R2: "Upper coefficient i = (H[i,0] × dy + P) + Q": the m + 1 of a segment.
 pub fn upper_coeffs(m: usize, h_coeff: &[f64], dy: f64, u0: &[f64], u1: &[f64], out: &mut [f64])
     requires { ⌜ (1 ≤ m)
         × HoldsH m (now «h_coeff»)
@@ -82,7 +82,7 @@ pub fn upper_coeffs(m: usize, h_coeff: &[f64], dy: f64, u0: &[f64], u1: &[f64], 
     }
 }
 
-// "Segment: left waypoint, left node's m numbers, the m + 1 upper ones."
+// R4: "Segment: left waypoint, left node's m numbers, the m + 1 upper ones."
 pub fn write_segment_coeffs(
     m: usize,
     h_coeff: &[f64],

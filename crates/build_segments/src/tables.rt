@@ -12,6 +12,7 @@ pub struct BlockMatrices {
     pub h_coeff: [f64; 28],
 }
 
+// T1: the tables of m = 1.
 pub fn m1() -> BlockMatrices
     ensures { λ t. ⌜ Matrices 1 t ⌝ }
 {
@@ -58,6 +59,7 @@ pub fn m1() -> BlockMatrices
     }
 }
 
+// T2: the tables of m = 2.
 pub fn m2() -> BlockMatrices
     ensures { λ t. ⌜ Matrices 2 t ⌝ }
 {
@@ -104,6 +106,7 @@ pub fn m2() -> BlockMatrices
     }
 }
 
+// T3: the tables of m = 3.
 pub fn m3() -> BlockMatrices
     ensures { λ t. ⌜ Matrices 3 t ⌝ }
 {

@@ -8,7 +8,7 @@ ghost use Rattle.build_segments.specs.Given.{Planned};
 ghost use Rattle.build_axes.specs.AllAxes.{allAxes};
 use build_segments::Plan;
 
-// "Lists per node: fixed arrays for 255 nodes." A curve with fewer nodes has shorter ones, since an array is set to
+// F10: "Lists per node: fixed arrays for 255 nodes." A curve with fewer nodes has shorter ones, since an array is set to
 // zero before it is used; two points have no inner node.
 pub fn fill(plan: Plan, waypoints: &[f64], start: &[f64], end: &[f64], coeffs: &mut [f64]) -> bool
     requires { ⌜ Planned plan (now waypoints) (now start) (now end)

@@ -13,11 +13,12 @@ use lib.Dec.{ltb}
 use lib.ListN.{length, drop}
 use lib.Seq.{take-at, drop-at}
 use lib.Ieee.{Float}
-use Rattle.rules.specs.Lists.{joined}
+use Rattle.law_lists.specs.Lists.{joined}
 use Rattle.rules.specs.Solve.{times, minus, solveMatrix, solvedC}
 use Rattle.rules.specs.Build.{solvedSide, innerNumbers}
-use Rattle.rules.proofs.Lists.{below-suc, length-joined}
-use Rattle.rules.proofs.Filling.{lt-or-le, joined-ext, parts-at, length-matrix}
+use Rattle.law_lists.proofs.Lists.{below-suc, length-joined}
+use Rattle.law_lists.proofs.Filling.{lt-or-le, joined-ext, parts-at}
+use Rattle.rules.proofs.Matrices.{length-matrix}
 use Rattle.rules.proofs.Build.{length-solvedSide, length-inner}
 use Rattle.build_thomas.specs.Axis.{part, put}
 

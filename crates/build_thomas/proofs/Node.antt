@@ -7,14 +7,14 @@ use lib.ListN.{length, take, drop}
 use lib.Ieee.{Float}
 use Rattle.rules.specs.Tables.{B}
 use Rattle.rules.specs.Solve.{nodeMatrix, nodeFactors, solvedC}
-use Rattle.rules.proofs.Lists.{part-inside}
+use Rattle.law_lists.proofs.Lists.{part-inside}
 use Rattle.build_block.specs.Columns.{Below, transposed}
 use Rattle.build_nodes.specs.NodeLists.{Room, nodeEntries, nodeRows, nodeSolved}
 use Rattle.build_factoring.proofs.Factors.{length-rows, rows-below}
-use Rattle.rules.proofs.Parts.{Parted, kept, part-at}
+use Rattle.law_lists.proofs.PartedList.{Parted, kept, part-at}
 use Rattle.build_nodes.proofs.Nodes.{length-entries, length-node-rows, length-solved}
 use Rattle.build_thomas.specs.Axis.{NodeFactors, NodeSolved, NodeAt}
-use Rattle.rules.proofs.Lent.{part-size, part-length}
+use Rattle.law_lists.proofs.Lent.{part-size, part-length}
 
 module _ {m i : ℕ} {entries : List Float} {rows : List ℕ} (h : NodeAt m i entries rows) where
   pub entries-part : take (i * (m * m) + m * m - i * (m * m)) (drop (i * (m * m)) entries) ≡ nodeFactors m i .entries

@@ -10,12 +10,12 @@ use lib.ListN.{length, take, drop}
 use lib.Seq.{drop-at}
 use lib.Ieee.{Float}
 use Rattle.rules.specs.Floats.{_⊖_, _!_, +0}
-use Rattle.rules.specs.Lists.{joined}
+use Rattle.law_lists.specs.Lists.{joined}
 use Rattle.rules.specs.Build.{ofAxis, dy, segmentCoefficients, innerNumbers, nodeNumbers, axisCoefficients}
-use Rattle.rules.proofs.Lists.{length-joined}
-use Rattle.rules.proofs.Filling.{lt-or-le, listed-at, joined-ext, parts-at}
+use Rattle.law_lists.proofs.Lists.{length-joined}
+use Rattle.law_lists.proofs.Filling.{lt-or-le, listed-at, joined-ext, parts-at}
 use Rattle.rules.proofs.Build.{length-inner}
-use Rattle.rules.proofs.Cells.{cell-inside}
+use Rattle.law_lists.proofs.Places.{cell-inside}
 use Rattle.build_segments.specs.declared.Plan.{Plan}
 use Rattle.build_segments.specs.NodeNumbers.{firstOf, lastOf, nodePart}
 use Rattle.build_thomas.specs.Axis.{AxisOf, waypointsOf, segmentOf}

@@ -9,7 +9,7 @@ use borrow.Author.Tests.{lt-ltb}
 use lib.Dec.{T, ltb, eqb, ltb→lt}
 use lib.Ieee.{Float}
 use Rattle.rules.specs.Floats.{_⊗_, _⊕_}
-use Rattle.rules.specs.Lists.{listed}
+use Rattle.law_lists.specs.Lists.{listed}
 use Rattle.rules.specs.Tables.{A}
 use Rattle.rules.specs.Solve.{entry, times, minus, solve, nodeFactors}
 use Rattle.rules.specs.Build.{dy, rightSide, boundedSide, solvedSide}

@@ -7,7 +7,7 @@ use lib.ListN.{length, take, drop}
 use lib.Dec.{ltb}
 use lib.Ieee.{Float}
 use Rattle.rules.specs.Floats.{_!_}
-use Rattle.rules.specs.Lists.{listed}
+use Rattle.law_lists.specs.Lists.{listed}
 use Rattle.rules.specs.Tables.{A}
 use Rattle.rules.specs.Solve.{times, minus, nodeFactors, solvedC}
 use Rattle.rules.specs.Build.{ofAxis, dy, segmentCoefficients, boundedSide, solvedSide}
@@ -51,7 +51,7 @@ part m xs i = take m (drop (i * m) xs)
 abbrev pub put : ℕ → ℕ → List Float → List Float → List Float
 put m i ys xs = take (i * m) xs ++ (ys ++ drop (i * m + m - i * m) (drop (i * m) xs))
 
--- what is solved at an inner node
+-- R8: what is solved at an inner node
 abbrev pub fullSide : ℕ → ℕ → List Float → List Float → List Float → ℕ → List Float
 fullSide m n w start end i =
     let side = boundedSide m n w start end i in

@@ -5,7 +5,7 @@ ghost use mathlib.Core.Bool.{cond};
 ghost use mathlib.Core.List.{List, _++_};
 ghost use Prim.Native.Nat.{suc, _+_, _-_, _*_, _^_, _≤_, _<_};
 ghost use lib.ListN.{length, take, drop};
-ghost use Rattle.rules.specs.Lists.{joined};
+ghost use Rattle.law_lists.specs.Lists.{joined};
 ghost use lib.Ieee.{Float};
 ghost use Rattle.rules.specs.Solve.{times, minus, solve, nodeFactors, solvedC};
 ghost use Rattle.rules.specs.Build.{dy, boundedSide, solvedSide, innerNumbers, axisCoefficients};
@@ -36,7 +36,7 @@ fn subtract_where(on: bool, m: usize, a: &[f64], u: &[f64], v: &mut [f64])
     build_block::products::subtract_product(m, a, u, v);
 }
 
-// The right side at inner node i, from the dy before it and after it: "at the first node minus A·start; at the
+// R6, R7: the right side at inner node i, from the dy before it and after it: "at the first node minus A·start; at the
 // last then minus C·end".
 fn bounded_side(
     plan: Plan,
@@ -78,7 +78,7 @@ fn previous(m: usize, i: usize) -> usize
     (i - 1) * m
 }
 
-// The right side of inner node i, "past the first then minus A times the previous solved right side".
+// R8: the right side of inner node i, "past the first then minus A times the previous solved right side".
 fn full_side(
     plan: Plan,
     r: &[f64],
@@ -112,7 +112,7 @@ fn full_side(
     subtract_where(0 < i, m, a, &solved[last..last + m], side);
 }
 
-// A right side solved with the factored matrix of inner node i, into its place.
+// R10: a right side solved with the factored matrix of inner node i, into its place.
 fn solve_node(m: usize, i: usize, entries: &[f64], rows: &[usize], side: &[f64], solved: &mut [f64])
     requires { ⌜ NodeAt m i (now entries) (now rows)
         × (length (now side) ≡ m)
@@ -173,7 +173,7 @@ fn forward_sweep(
     }
 }
 
-// "Back: u = solved right side − solved C · next u", at inner node i. The next node's numbers are copied, since
+// R11: "Back: u = solved right side − solved C · next u", at inner node i. The next node's numbers are copied, since
 // two parts of one list are not lent at a time.
 fn back_step(m: usize, solved_c: &[f64], i: usize, next: &mut [f64], solved: &mut [f64])
     requires { ⌜ (1 ≤ m)
@@ -212,7 +212,7 @@ fn back_sweep(m: usize, n: usize, solved_c: &[f64], next: &mut [f64], solved: &m
     }
 }
 
-// The n + 1 segments.
+// B14: the n + 1 segments.
 fn write_segments<'a>(
     plan: Plan,
     h_coeff: &[f64],

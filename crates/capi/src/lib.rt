@@ -12,15 +12,15 @@ ghost use Rattle.rules.specs.Query.{buffers, Queried};
 ghost use Rattle.rules.specs.Master.{setOf, checkMaster};
 ghost use Rattle.rules.specs.Build.{inputOf};
 ghost use Rattle.rules.specs.Query.{queryOf};
-ghost use Rattle.capi.specs.Export.{stateOf, modeOf, configOf, pathOf, checkNumber};
-use rules::BoundaryState;
-use rules::MasterAnswer;
-use rules::OutOfRangeMode;
+ghost use Rattle.capi_numbers.specs.Meaning.{stateOf, configOf, pathOf, checkNumber};
+use capi_numbers::check_number;
+use capi_numbers::mode_of;
+use capi_numbers::state_of;
 use rules::PathParam;
 use rules::PathRecord;
 use rules::SplineConfig;
 
-// a * b + c with one rounding (document 01, module 1).
+// A1, R29: a * b + c with one rounding (document 01, module 1).
 #[no_mangle]
 pub extern "C" fn spline_mul_add(a: f64, b: f64, c: f64) -> f64
     ensures { λ r. ⌜ r ≡ fused binary64 a b c ⌝ }
@@ -28,41 +28,7 @@ pub extern "C" fn spline_mul_add(a: f64, b: f64, c: f64) -> f64
     fused::mul_add(a, b, c)
 }
 
-// A boundary state by its kind.
-fn state_of(kind: u8, rows: usize, columns: usize) -> BoundaryState
-    ensures { λ r. ⌜ r ≡ stateOf kind rows columns ⌝ }
-{
-    match kind {
-        0 => BoundaryState::None,
-        1 => BoundaryState::Given {
-            rows,
-            columns,
-            per_unit_of_s: false,
-        },
-        2 => BoundaryState::Given {
-            rows,
-            columns,
-            per_unit_of_s: true,
-        },
-        _ => BoundaryState::Given {
-            rows: 18446744073709551615,
-            columns,
-            per_unit_of_s: false,
-        },
-    }
-}
-
-// What a query does outside the range, by its number.
-fn mode_of(mode: u8) -> OutOfRangeMode
-    ensures { λ r. ⌜ r ≡ modeOf mode ⌝ }
-{
-    if mode == 1 {
-        return OutOfRangeMode::Clamp;
-    }
-    OutOfRangeMode::Error
-}
-
-// The build (document 01, modules 2 to 5). The kinds of a state: 0 none, 1 given, 2 given per unit of s, and
+// A1: the build (document 01, modules 2 to 5). The kinds of a state: 0 none, 1 given, 2 given per unit of s, and
 // any other is refused as a state whose shape does not fit. Mode 1 is Clamp, any other is Error.
 // inv_ds is written where the answer is 0.
 #[no_mangle]
@@ -85,7 +51,9 @@ pub extern "C" fn spline_build(
     coeffs: &mut [f64],
     inv_ds: &mut f64,
 ) -> u32
-    ensures { λ r. ⌜ (let config = configOf order «s_min» «s_max» mode (stateOf «start_kind» «start_rows» «start_cols») (stateOf «end_kind» «end_rows» «end_cols») in
+    ensures { λ r. ⌜ (let first = stateOf «start_kind» «start_rows» «start_cols» in
+        let last = stateOf «end_kind» «end_rows» «end_cols» in
+        let config = configOf order «s_min» «s_max» mode first last in
         let b = inputOf config points axes (now (waypoints .entry)) (now (start .entry)) (now (end .entry)) in
         let number = buildNumber b (length (now (coeffs .entry))) in
         (r ≡ number)
@@ -107,7 +75,7 @@ pub extern "C" fn spline_build(
     answer.number
 }
 
-// The query (document 01, module 6). Mode 1 is Clamp, any other is Error. The buffers are written where
+// A1: the query (document 01, module 6). Mode 1 is Clamp, any other is Error. The buffers are written where
 // the answer is 0, and of those the ones that the level writes.
 #[no_mangle]
 pub extern "C" fn spline_query(
@@ -126,7 +94,8 @@ pub extern "C" fn spline_query(
     ddq: &mut [f64],
     dddq: &mut [f64],
 ) -> u32
-    ensures { λ r. ⌜ Queried (queryOf (pathOf order segments axes «s_min» «s_max» «inv_ds» mode) (now (coeffs .entry)) (record { 0 = s }) level)
+    ensures { λ r. ⌜ Queried
+        (queryOf (pathOf order segments axes «s_min» «s_max» «inv_ds» mode) (now (coeffs .entry)) (record { 0 = s }) level)
         (buffers (now (q .entry)) (now (dq .entry)) (now (ddq .entry)) (now (dddq .entry)))
         r
         (buffers (now (q .exit)) (now (dq .exit)) (now (ddq .exit)) (now (dddq .exit))) ⌝ }
@@ -143,7 +112,7 @@ pub extern "C" fn spline_query(
     query::eval_at(path, coeffs, PathParam(s), level, q, dq, ddq, dddq)
 }
 
-// The check of masters (document 01, module 7), over one axis in whole numbers: 0 is no, 1 is yes, and any other
+// A1, M8: the check of masters (document 01, module 7), over one axis in whole numbers: 0 is no, 1 is yes, and any other
 // number is a refusal's.
 #[no_mangle]
 pub extern "C" fn spline_check_master(
@@ -153,11 +122,8 @@ pub extern "C" fn spline_check_master(
     end: &[i64],
     table: &[i64],
 ) -> u32
-    ensures { λ r. ⌜ r ≡ checkNumber (checkMaster (setOf order (now (waypoints .entry)) (now (start .entry)) (now (end .entry)) (now (table .entry)))) ⌝ }
+    ensures { λ r. ⌜ (let set = setOf order (now (waypoints .entry)) (now (start .entry)) (now (end .entry)) (now (table .entry)) in
+        r ≡ checkNumber (checkMaster set)) ⌝ }
 {
-    match master::check_master(order, waypoints, start, end, table) {
-        MasterAnswer::Yes => 1,
-        MasterAnswer::No => 0,
-        MasterAnswer::Refused(number) => number,
-    }
+    check_number(master::check_master(order, waypoints, start, end, table))
 }

@@ -14,7 +14,7 @@ fn number(x: f64) -> bool
     x == x
 }
 
-// a * b + c with one rounding, as IEEE 754's fusedMultiplyAdd.
+// A1, G2, R29, R30, R31: a * b + c with one rounding, as IEEE 754's fusedMultiplyAdd.
 pub fn mul_add(a: f64, b: f64, c: f64) -> f64
     ensures { λ r. ⌜ r ≡ fused binary64 a b c ⌝ }
 {

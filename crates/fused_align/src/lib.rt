@@ -10,7 +10,7 @@ use fused_words::less;
 use fused_words::shifted;
 use fused_words::sum;
 
-// big * 2^(e + d) + small * 2^e, each with its sign, over 2^2272. The smaller one is shifted to the
+// R29, R30: big * 2^(e + d) + small * 2^e, each with its sign, over 2^2272. The smaller one is shifted to the
 // other's exponent, and what is shifted out stays visible in its last bit. It comes to that only
 // from a shift of three on, and then the sum keeps its leading bits. Else all of this is exact, even
 // where nearly all bits cancel.

@@ -66,7 +66,7 @@ fn finite(x: f64) -> bool
     x - x == 0.0
 }
 
-// a * b + c of finite operands. With a zero factor the product needs no rounding. A zero addend leaves
+// R30: a * b + c of finite operands. With a zero factor the product needs no rounding. A zero addend leaves
 // the rounded product, whose sign it must not change.
 fn of_finite(a: f64, b: f64, c: f64) -> f64
     requires { ⌜ (Scale.finite a ≡ true) × (Scale.finite b ≡ true) × (Scale.finite c ≡ true) ⌝ }
@@ -87,7 +87,7 @@ fn of_finite(a: f64, b: f64, c: f64) -> f64
     of_bits(x, y, z)
 }
 
-// a * b + c with one rounding, for all operands. With a factor that is not finite the product needs no
+// R31: a * b + c with one rounding, for all operands. With a factor that is not finite the product needs no
 // rounding. An infinite addend is the answer even where the product alone would overflow.
 pub fn general(a: f64, b: f64, c: f64) -> f64
     ensures { λ r. ⌜ r ≡ fused binary64 a b c ⌝ }

@@ -13,7 +13,7 @@ use fused_words::SIGN;
 use fused_words::marked;
 use fused_words::shifted_word;
 
-// w / 2^11, rounded: to the nearest whole number, and at a tie to the even one.
+// G1, R29: w / 2^11, rounded: to the nearest whole number, and at a tie to the even one.
 fn nearest(w: u64) -> u64
     ensures { λ r. ⌜ r ≡ closest w (2 ^ 11) ⌝ }
 {

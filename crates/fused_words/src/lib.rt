@@ -26,7 +26,7 @@ pub fn below(a: u64, b: u64) -> u64
     if a < b { 1 } else { 0 }
 }
 
-// a * b. Each is cut into halves of 32 bits; of the four products the two in the middle have room
+// F4, R29: a * b. Each is cut into halves of 32 bits; of the four products the two in the middle have room
 // for their sum, and its lower half joins the lowest product modulo 2^64, with the carry noted.
 pub fn product(a: u64, b: u64) -> Words
     requires { ⌜ (a < 2 ^ 63) × (b < 2 ^ 63) ⌝ }
@@ -46,7 +46,7 @@ pub fn product(a: u64, b: u64) -> Words
     }
 }
 
-// x + y: the low words are added modulo 2^64, and the carry is noted.
+// F4, R29: x + y: the low words are added modulo 2^64, and the carry is noted.
 pub fn sum(xh: u64, xl: u64, yh: u64, yl: u64) -> Words
     requires { ⌜ xh + yh < 2 ^ 63 ⌝ }
     ensures { λ r. ⌜ (value r ≡ xh * 2 ^ 64 + xl + (yh * 2 ^ 64 + yl)) × (r .low < 2 ^ 64) ⌝ }

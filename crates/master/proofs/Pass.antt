@@ -14,15 +14,15 @@ use lib.Seq.{drop-drop}
 use lib.Ieee.Fits.{and-i, and-l, and-r}
 use borrow.Author.Tests.{eq-eqb, ne-eqb}
 use Rattle.rules.specs.declared.MasterAnswer.the-variants.{Refused}
-use Rattle.rules.specs.Lists.{all, every}
+use Rattle.law_lists.specs.Lists.{all, every}
 use Rattle.rules.specs.Questions.{Question, ask, firstNo}
 use Rattle.rules.specs.Tables.{mOf}
 use Rattle.rules.specs.Master.{MasterSet, Equations, within, same, at, coefficient, atEnd, segments, meetsStart}
 use Rattle.rules.specs.Master.{MasterSays, masterQuestions, sizeQuestions, lengthQuestions, numberQuestions, masterNumber, masterSays}
 use Rattle.rules.specs.Master.{endpointEquations, jointEquations, checkMaster}
 use Rattle.law_rounding.proofs.Sums.{same-test}
-use Rattle.rules.proofs.Lists.{every-at, every-of, all-split, all-none-left}
-use Rattle.rules.proofs.Cells.{next-part}
+use Rattle.law_lists.proofs.Lists.{every-at, every-of, all-split, all-none-left}
+use Rattle.law_lists.proofs.Places.{next-part}
 use Rattle.rules.proofs.Build.{by-order, coefficient-count}
 use Rattle.rules.proofs.Questions.{numbered, never, answerAt, said-yes}
 use Rattle.rules.proofs.Master.{same→eq, eq→same, to-equations, of-equations}

@@ -5,14 +5,14 @@ use mathlib.Core.List.{List, [], _∷_, _++_}
 use Prim.Native.Nat.{ℕ, _-_}
 use lib.IntN.{ℤ}
 use lib.ListN.{length}
-use Rattle.rules.specs.Lists.{all, every}
+use Rattle.law_lists.specs.Lists.{all, every}
 use Rattle.rules.specs.Questions.{Question, ask}
 use Rattle.rules.specs.Master.{MasterSet, MasterSays, sizeQuestions, lengthQuestions, within, meetsStart}
 use Rattle.master_equations.specs.Segment.{segmentMeets}
 
 -- ---- the questions
 
--- the last question is asked of all but the table
+-- M1, M2, M3, M4, M5, M6, M7: the last question is asked of all but the table
 unfoldable pub questionsBefore : MasterSet → List Question
 questionsBefore s =
     sizeQuestions (s .order) (length (s .waypoints))

@@ -2,7 +2,7 @@
 // here of the waypoints and of both states; of the table it is asked segment by segment, in the pass over it.
 ghost use mathlib.Core.Path.{_≡_};
 ghost use mathlib.Core.Bool.{_&&_};
-ghost use Rattle.rules.specs.Lists.{all};
+ghost use Rattle.law_lists.specs.Lists.{all};
 ghost use Rattle.rules.specs.Questions.{firstNo};
 ghost use Rattle.rules.specs.Master.{setOf, within};
 ghost use Rattle.master.specs.Pass.{questionsBefore};
@@ -40,19 +40,19 @@ pub fn master_questions(
     }
     let m = (order - 1) / 2;
     if start.len() != m {
-        return 303; // the start state
+        return 303; // M4: the start state
     }
     if end.len() != m {
-        return 303; // the end state
+        return 303; // M5: the end state
     }
     // Both are worked out before either is asked: their order is then that of two tests, and no more.
     let fits = table.len() == (points - 1) * (order + 1);
     let in_range = given_within(waypoints, start, end);
     if !fits {
-        return 2; // the table
+        return 2; // M6: the table
     }
     if !in_range {
-        return 4; // a number
+        return 4; // M7: a number
     }
     0 // every question says yes
 }

@@ -13,6 +13,7 @@ use master_equations::segment::check_segment;
 use master_equations::segment::meets_start;
 use rules::MasterAnswer;
 
+// A1, M8: whether an answer is yes.
 pub fn is_yes(answer: MasterAnswer) -> bool
     ensures { λ r. ⌜ r ≡ masterSays answer .good ⌝ }
 {
@@ -62,7 +63,7 @@ fn check_segments(
     MasterAnswer::No
 }
 
-// The check. It reads what it is given and writes nothing.
+// A1, D1, M8, M9, M10: the check. It reads what it is given and writes nothing.
 pub fn check_master(
     order: usize,
     waypoints: &[i64],

@@ -13,9 +13,9 @@ use lib.Signed.{mag}
 use lib.Ieee.Bits.{is-true, is-false}
 use mir.Syntax.{w64}
 use mir.Val.{ofZ, toZ, hbits}
-use Rattle.rules.specs.Lists.{every}
+use Rattle.law_lists.specs.Lists.{every}
 use Rattle.rules.specs.Master.{same, at, atEnd, coefficient, meetsStart}
-use Rattle.rules.proofs.Lists.{every-fails, every-more, part-inside}
+use Rattle.law_lists.proofs.Lists.{every-fails, every-more, part-inside}
 use Rattle.rules.proofs.Master.{same→eq, eq→same}
 use Rattle.master_numbers.proofs.Signed.{as-read}
 use Rattle.master_equations.specs.Segment.{Shaped, meetsAt, segmentMeets}

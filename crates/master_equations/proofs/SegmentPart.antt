@@ -9,10 +9,10 @@ use lib.Dec.{T}
 use lib.IntN.{ℤ, pos}
 use lib.ListN.{length, getD, take, drop}
 use lib.Seq.{getD-take, getD-drop}
-use Rattle.rules.specs.Lists.{all}
+use Rattle.law_lists.specs.Lists.{all}
 use Rattle.rules.specs.Master.{within, coefficient}
-use Rattle.rules.proofs.Lists.{part-inside, all-at}
-use Rattle.rules.proofs.Lent.{part-size}
+use Rattle.law_lists.proofs.Lists.{part-inside, all-at}
+use Rattle.law_lists.proofs.Lent.{part-size}
 use Rattle.master_numbers.specs.Sums.{Summable}
 use Rattle.master_equations.specs.Segment.{Shaped, segmentPart}
 

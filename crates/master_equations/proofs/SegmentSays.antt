@@ -6,7 +6,7 @@ use Prim.Native.Nat.{ℕ}
 use lib.IntN.{ℤ}
 use borrow.Author.Tests.{not-true, not-false}
 use Rattle.rules.specs.declared.MasterAnswer.the-variants.{Refused}
-use Rattle.rules.specs.Lists.{all}
+use Rattle.law_lists.specs.Lists.{all}
 use Rattle.rules.specs.Master.{MasterSays, within, masterSays}
 use Rattle.master_equations.specs.Segment.{segmentMeets, segmentPart, segmentSays}
 

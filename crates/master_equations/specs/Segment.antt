@@ -6,7 +6,7 @@ use Prim.Native.Nat.{ℕ, suc, _+_, _-_, _*_, _≤_}
 use lib.Dec.{eqb}
 use lib.IntN.{ℤ}
 use lib.ListN.{length, take, drop}
-use Rattle.rules.specs.Lists.{all, every}
+use Rattle.law_lists.specs.Lists.{all, every}
 use Rattle.rules.specs.Master.{MasterSays, within, same, at, coefficient, atEnd}
 
 -- what the questions have settled of the lengths of a set with so many waypoints, the start state aside

@@ -26,7 +26,7 @@ fn meets(sums: &[i64], numbers: &[i64], from: usize, count: usize) -> bool
     true
 }
 
-// Coefficients 1 to m of the first segment are the start state.
+// R38: coefficients 1 to m of the first segment are the start state.
 pub fn meets_start(m: usize, start: &[i64], table: &[i64]) -> bool
     requires { ⌜ (m ≤ length (now start)) × (m < length (now table)) ⌝ }
     ensures { λ b. ⌜ ((segments : ℕ) → b ≡ meetsStart m segments (now (table .entry)) (now (start .entry))) ⌝ }
@@ -34,7 +34,7 @@ pub fn meets_start(m: usize, start: &[i64], table: &[i64]) -> bool
     meets(table, start, 0, m)
 }
 
-// All before is good, and segment i meets its equations.
+// R36, R37, R39, R40: all before is good, and segment i meets its equations.
 fn segment_meets(
     before: bool,
     m: usize,

@@ -12,9 +12,9 @@ use lib.ListN.{length, set, length-set}
 use lib.Seq.{getD-set-same, getD-set-other}
 use lib.IntN.{ℤ, pos, natAbs, _+ℤ_, _*ℤ_, +ℤ-idl, zero-*ℤ}
 use Rattle.law_integers.proofs.Laws.{natAbs-+ℤ, natAbs-*ℤ, one-*ℤ, +ℤ-*ℤ}
-use Rattle.rules.specs.Lists.{every}
+use Rattle.law_lists.specs.Lists.{every}
 use Rattle.rules.specs.Master.{at, coefficient, atEnd, binomial, sumℤ, within}
-use Rattle.rules.proofs.Lists.{below-suc, every-at}
+use Rattle.law_lists.proofs.Lists.{below-suc, every-at}
 use Rattle.theorems.proofs.Sums.{sum-same, sum-add, sum-split, sum-first, sum-zero}
 use Rattle.master_numbers.specs.Sums.{Summable, AddedUp, sumFrom}
 

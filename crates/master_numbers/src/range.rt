@@ -1,8 +1,9 @@
 // "Every number within ±1,099,511,627,776, which is 2^40."
 ghost use mathlib.Core.Path.{_≡_};
-ghost use Rattle.rules.specs.Lists.{all};
+ghost use Rattle.law_lists.specs.Lists.{all};
 ghost use Rattle.rules.specs.Master.{within};
 
+// M7: of one number.
 fn is_within(z: i64) -> bool
     ensures { λ r. ⌜ r ≡ within z ⌝ }
 {

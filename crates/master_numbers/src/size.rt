@@ -9,13 +9,13 @@ pub fn size_questions(order: usize, points: usize) -> u32
     ensures { λ r. ⌜ r ≡ firstNo (sizeQuestions order points) ⌝ }
 {
     if !valid_order(order) {
-        return 302;
+        return 302; // M1
     }
     if points < 2 {
-        return 304;
+        return 304; // M2
     }
     if 257 < points {
-        return 2;
+        return 2; // M3
     }
     0 // every question says yes
 }

@@ -36,7 +36,7 @@ fn add_up(b: &mut [i64], first: usize, last: usize)
     }
 }
 
-// The sum of C(k,r) × coefficient k of segment i, for r = 0 to 2m. None of the sums on the way, of numbers within
+// R35: the sum of C(k,r) × coefficient k of segment i, for r = 0 to 2m. None of the sums on the way, of numbers within
 // ±2^40, comes near 2^63.
 pub fn sums(m: usize, table: &[i64], i: usize) -> [i64; 8]
     requires { ⌜ Summable m (now table) i ⌝ }

@@ -17,7 +17,7 @@ use Rattle.law_integers.proofs.Ring.{Expr, var, con, _:+_, _:*_, value, identit
 use Rattle.rules.specs.Build.{validOrder}
 use Rattle.rules.specs.Tables.{mOf}
 use Rattle.rules.specs.Master.{binomial, sumℤ}
-use Rattle.rules.proofs.Lists.{below-suc}
+use Rattle.law_lists.proofs.Lists.{below-suc}
 use Rattle.rules.proofs.Build.{by-order}
 use Rattle.theorems.proofs.Sums.{sum-same, sum-zero}
 

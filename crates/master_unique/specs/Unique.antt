@@ -11,12 +11,12 @@ use lib.Dec.{T}
 use lib.IntN.{ℤ}
 use Rattle.rules.specs.declared.MasterAnswer.{MasterAnswer}
 use Rattle.rules.specs.declared.MasterAnswer.the-variants.{Yes}
-use Rattle.rules.specs.Lists.{all}
+use Rattle.law_lists.specs.Lists.{all}
 use Rattle.rules.specs.Build.{BuildInput, buildNumber}
 use Rattle.rules.specs.Master.{MasterSet, setOf, within, checkMaster, masterSays}
 use Rattle.theorems.specs.Exact.{WholeTwoPoints, axisSet}
 
--- Demand 3, of any two sets. The check says yes to none whose order is not 3, 5 or 7.
+-- D3, M11: of any two sets. The check says yes to none whose order is not 3, 5 or 7.
 unfoldable pub MastersAreUnique : Type 0
 MastersAreUnique =
     (s t : MasterSet) → s .order ≡ t .order → T (checkMaster s .good) → T (checkMaster t .good)

@@ -23,7 +23,7 @@ fn both(first: MasterAnswer, second: MasterAnswer) -> MasterAnswer
     }
 }
 
-// Does the check say yes to two sets of one order? Yes: to both, and then the tables are equal exactly when the waypoints,
+// A1, D3: does the check say yes to two sets of one order? Yes: to both, and then the tables are equal exactly when the waypoints,
 // the start states and the end states are. No: it refuses neither, and says no to one or to both. Refused: it refuses the
 // first set with this number, or else the second.
 pub fn both_yes(

@@ -17,7 +17,7 @@ use Rattle.rules.specs.Questions.{Question, firstNo}
 use Rattle.rules.specs.Build.{validAxes}
 use Rattle.rules.specs.Query.{QueryInput, Lengths, writes, lookup, LookupSays, lookupSays, evalPoly, perUnitOfS, segmentOf}
 use Rattle.rules.specs.Query.{queryQuestions, pathQuestions, bufferQuestions, rangeQuestions, queryNumber, derivative, derivativeAfter}
-use Rattle.rules.specs.Lists.{listed}
+use Rattle.law_lists.specs.Lists.{listed}
 use Rattle.rules.proofs.Query.{long-enough}
 use Rattle.rules.proofs.Questions.{answerAt, said-yes, first-no, first-yes, yes-to, no-to}
 use Rattle.query_axes.specs.Evaluation.{Evaluable, derivativeAt}

@@ -8,7 +8,7 @@ use rules::Lookup;
 use rules::PathParam;
 use rules::PathRecord;
 
-// The query. Every call is answered: 0, and the buffers that the level writes hold the derivatives of each
+// A1, D1, F9, Q12: the query. Every call is answered: 0, and the buffers that the level writes hold the derivatives of each
 // axis; or the number of the first question that says no, and all four buffers are as they were.
 pub fn eval_at(
     path: PathRecord,

@@ -8,14 +8,14 @@ use native.Mathlib.Omega.{arith}
 use lib.ListN.{length, set, take, drop}
 use lib.Ieee.{Float}
 use Rattle.rules.specs.declared.PathRecord.{PathRecord}
-use Rattle.rules.specs.Lists.{listed}
+use Rattle.law_lists.specs.Lists.{listed}
 use Rattle.rules.specs.Floats.{+0}
 use Rattle.rules.specs.Query.{Lengths, evalPoly, perUnitOfS}
 use Rattle.rules.proofs.Build.{by-order}
-use Rattle.rules.proofs.Cells.{cell-inside}
+use Rattle.law_lists.proofs.Places.{cell-inside}
 use Rattle.rules.proofs.Fills as Fills
-use Rattle.rules.proofs.Fills.{Filled}
-use Rattle.rules.proofs.Lists.{part-inside}
+use Rattle.rules.proofs.FilledList.{Filled}
+use Rattle.law_lists.proofs.Lists.{part-inside}
 use Rattle.query_axes.specs.Evaluation.{Evaluable}
 
 -- ---- a buffer that is written, w, or not: ys is xs with f's cells below i, or xs itself

@@ -7,7 +7,7 @@ use lib.Dec.{T}
 use lib.ListN.{length}
 use lib.Ieee.{Float}
 use Rattle.rules.specs.declared.PathRecord.{PathRecord}
-use Rattle.rules.specs.Lists.{listed}
+use Rattle.law_lists.specs.Lists.{listed}
 use Rattle.rules.specs.Build.{validOrder, tableLength}
 use Rattle.rules.specs.Query.{Lengths, Buffers, validLevel, writes, evalPoly, perUnitOfS, segmentOf}
 

@@ -9,7 +9,7 @@ use query_poly::eval_poly;
 use rules::PathRecord;
 use rules::SegmentUnits;
 
-// Derivative k of an axis goes to its buffer, where the level writes that.
+// Q13, Q14: derivative k of an axis goes to its buffer, where the level writes that.
 fn put(level: u8, k: u8, cells: &mut [f64], axis: usize, x: f64)
     requires { ⌜ (writes level k ≡ true → axis < length (now cells)) ⌝ }
     ensures { λ r. ⌜ now (cells .exit) ≡ cond (writes level k) (set (now (cells .entry)) axis x) (now (cells .entry)) ⌝ }
@@ -19,7 +19,7 @@ fn put(level: u8, k: u8, cells: &mut [f64], axis: usize, x: f64)
     }
 }
 
-// The derivatives of every axis in one segment at tau, per unit of s. No derivative is evaluated that the
+// R28: the derivatives of every axis in one segment at tau, per unit of s. No derivative is evaluated that the
 // level does not write.
 pub fn eval_axes(
     path: PathRecord,

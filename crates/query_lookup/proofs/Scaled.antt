@@ -31,7 +31,7 @@ clamped-finite Clamp lo hi s h k r = go (lt (s .0) (lo .0)) (lt (hi .0) (s .0)) 
     go false true inside = k
     go false false inside = inside tt tt
 
--- The difference is a number, if an infinite one, and inv_ds equals a finite number above 0.
+-- R22: the difference is a number, if an infinite one, and inv_ds equals a finite number above 0.
 pub scaled-is-a-number : (p : PathRecord) (s : PathParam)
     → T (validPathRange p)
     → inRange (p .mode) (p .«s_min») (p .«s_max») s ≡ true

@@ -70,7 +70,7 @@ module _ (m k : ℕ) (q : T (fits binary64 (fin false m (negsuc k)))) (p : 0 < m
       difference-held binary64 (fin false m (negsuc k)) (ofCount (m / d)) (fin false (m % d) (negsuc k)) false m (m / d * d) d (pow-pos (suc k))
       (refl, ap (λ n. n * d) (mul-one m)) whole-value (omega arith) rest-fits (refl, ap (λ n. n * d) (mul-one (m % d) ∙ mod-eq-sub-div-mul m d))
 
--- The subtraction loses nothing: for every f64 that is finite and above 0 the rounded difference is the remainder, which nothing rounds.
+-- R25: the subtraction loses nothing: for every f64 that is finite and above 0 the rounded difference is the remainder, which nothing rounds.
 -- (A number m × 2^k has no rest, since it is its own whole part.)
 pub rest-exact : (x : Float) → T (fits binary64 x) → T (positive x) → x ⊖ ofCount (wholePart x) ≡ exactRest x
 unfolding wholePart exactRest ofInt d

@@ -13,7 +13,7 @@ use rules::PathParam;
 use rules::PathRecord;
 use rules::SegmentUnits;
 
-// The last question. No comparison with a NaN holds.
+// Q10: the last question. No comparison with a NaN holds.
 fn in_range(mode: OutOfRangeMode, s_min: PathParam, s_max: PathParam, s: PathParam) -> bool
     ensures { λ r. ⌜ r ≡ inRange mode «s_min» «s_max» s ⌝ }
 {
@@ -23,7 +23,7 @@ fn in_range(mode: OutOfRangeMode, s_min: PathParam, s_max: PathParam, s: PathPar
     }
 }
 
-// In Clamp, the nearest end in the place of an s outside the range, infinities included.
+// R21: in Clamp, the nearest end in the place of an s outside the range, infinities included.
 fn clamped(mode: OutOfRangeMode, s_min: PathParam, s_max: PathParam, s: PathParam) -> PathParam
     ensures { λ r. ⌜ r ≡ Query.clamped mode «s_min» «s_max» s ⌝ }
 {
@@ -49,7 +49,7 @@ fn count_as_float(n: u64) -> f64
     n as i64 as f64
 }
 
-// The segment, and tau. The subtraction loses nothing: the rest has no more digits than x.
+// R23, R24, R25: the segment, and tau. The subtraction loses nothing: the rest has no more digits than x.
 fn located(segments: usize, x: SegmentUnits) -> Lookup
     requires { ⌜ (1 ≤ segments) × (segments ≤ 256) × (isNan (x .0) ≡ false) ⌝ }
     ensures { λ r. ⌜ r ≡ Query.located segments x ⌝ }
@@ -73,7 +73,7 @@ fn located(segments: usize, x: SegmentUnits) -> Lookup
     }
 }
 
-// The lookup of s. In a range that question 5 lets pass scaled is never NaN.
+// Q11, R22: the lookup of s. In a range that its question lets pass, scaled is never NaN.
 pub fn segment_tau(path: PathRecord, s: PathParam) -> Lookup
     requires { ⌜ Findable path ⌝ }
     ensures { λ r. ⌜ lookupSays r ≡ lookupSays (lookup path s) ⌝ }

@@ -7,20 +7,21 @@ ghost use Rattle.rules.specs.Query.{queryOf};
 use rules::PathParam;
 use rules::PathRecord;
 
+// F7: the record, and the coefficients that it was lent.
 pub struct SplinePath<'a> {
     pub path: PathRecord,
     pub coeffs: &'a [f64],
 }
 
 impl<'a> SplinePath<'a> {
-    // The record and the coefficients as they are. Whether they fit each other is asked at each query.
+    // A1, F7: the record and the coefficients as they are. Whether they fit each other is asked at each query.
     pub fn new(path: PathRecord, coeffs: &'a [f64]) -> SplinePath<'a>
         ensures { λ r. ⌜ r ≡ record { path = path; coeffs = coeffs .entry } ⌝ }
     {
         SplinePath { path, coeffs }
     }
 
-    // The query, of this path.
+    // A1, F7: the query, of this path.
     pub fn eval_at(
         self,
         s: PathParam,
@@ -39,7 +40,7 @@ impl<'a> SplinePath<'a> {
     }
 }
 
-// The query for a caller that holds a record and coefficients: its parameters are plain.
+// A1: the query for a caller that holds a record and coefficients: its parameters are plain.
 pub fn eval_path(
     path: PathRecord,
     coeffs: &[f64],

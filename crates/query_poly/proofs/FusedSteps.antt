@@ -8,11 +8,11 @@ use lib.Dec.{eqb}
 use lib.ListN.{length, getD}
 use lib.Ieee.{Float, nan, binary64}
 use Rattle.rules.specs.Floats.{_⊗_, ofCount}
-use Rattle.rules.specs.Lists.{listed}
+use Rattle.law_lists.specs.Lists.{listed}
 use Rattle.rules.specs.Fused.{fused}
 use Rattle.rules.specs.Query.{derivativeFactor, term, fusedSteps, fusedDerivative}
 use Rattle.rules.proofs.Cells.{read}
-use Rattle.rules.proofs.Filling.{listed-ext}
+use Rattle.law_lists.proofs.Filling.{listed-ext}
 
 -- r is found of a list of terms, from the last one down: what code knows of it by each of its steps
 pub data Found (t : Float) : List Float → Float → Type 0 where

@@ -44,7 +44,7 @@ fn up_to_second(q: f64, dq: f64, ddq: f64) -> Derivatives
     }
 }
 
-// Order 3, by fused steps: the position.
+// F2, R26: order 3, by fused steps: the position.
 fn cubic_position(a: &[f64], t: f64) -> f64
     requires { ⌜ length (now a) ≡ 4 ⌝ }
     ensures { λ r. ⌜ r ≡ fusedDerivative 3 (now (a .entry)) t 0 ⌝ }
@@ -52,7 +52,7 @@ fn cubic_position(a: &[f64], t: f64) -> f64
     mul_add(mul_add(mul_add(a[3], t, a[2]), t, a[1]), t, a[0])
 }
 
-// Order 3, by fused steps. They are taken of each derivative in turn: a step waits for the one before it, and
+// F2, R26: order 3, by fused steps. They are taken of each derivative in turn: a step waits for the one before it, and
 // those of the others do not.
 fn cubic(level: u8, a: &[f64], t: f64) -> Derivatives
     requires { ⌜ T (validLevel level) × (length (now a) ≡ 4) ⌝ }
@@ -84,7 +84,7 @@ fn cubic(level: u8, a: &[f64], t: f64) -> Derivatives
     }
 }
 
-// Order 5, by fused steps: the position.
+// F2, R26: order 5, by fused steps: the position.
 fn quintic_position(a: &[f64], t: f64) -> f64
     requires { ⌜ length (now a) ≡ 6 ⌝ }
     ensures { λ r. ⌜ r ≡ fusedDerivative 5 (now (a .entry)) t 0 ⌝ }
@@ -93,7 +93,7 @@ fn quintic_position(a: &[f64], t: f64) -> f64
     mul_add(mul_add(mul_add(upper, t, a[2]), t, a[1]), t, a[0])
 }
 
-// Order 5, by fused steps, of each derivative in turn.
+// F2, R26: order 5, by fused steps, of each derivative in turn.
 fn quintic(level: u8, a: &[f64], t: f64) -> Derivatives
     requires { ⌜ T (validLevel level) × (length (now a) ≡ 6) ⌝ }
     ensures { λ r. ⌜ r ≡ asked level (fusedDerivative 5 (now (a .entry)) t) ⌝ }
@@ -128,7 +128,7 @@ fn quintic(level: u8, a: &[f64], t: f64) -> Derivatives
     Derivatives { q, dq, ddq, dddq }
 }
 
-// A step of the general loop, product and sum rounded apart: one coefficient more.
+// R27: a step of the general loop, product and sum rounded apart: one coefficient more.
 fn general_step(level: u8, b: Derivatives, t: f64, a: f64) -> Derivatives
     requires { ⌜ T (validLevel level) ⌝ }
     ensures { λ r. ⌜ ((y : Float) (rest : List Float)
@@ -148,7 +148,7 @@ fn general_step(level: u8, b: Derivatives, t: f64, a: f64) -> Derivatives
     Derivatives { q, dq, ddq, dddq }
 }
 
-// Order 7, by the general loop.
+// R27: order 7, by the general loop.
 fn general(level: u8, a: &[f64], t: f64) -> Derivatives
     requires { ⌜ T (validLevel level) × (length (now a) ≡ 8) ⌝ }
     ensures { λ r. ⌜ r ≡ asked level (loopDerivative (generalLoop t (now (a .entry)))) ⌝ }
@@ -162,7 +162,7 @@ fn general(level: u8, a: &[f64], t: f64) -> Derivatives
     b
 }
 
-// A segment's coefficients at t, by its order. The general loop is called with each level as a constant, so
+// R26, R27: a segment's coefficients at t, by its order. The general loop is called with each level as a constant, so
 // that the compiler makes one for each, and nothing is asked inside.
 pub fn eval_poly(order: usize, level: u8, a: &[f64], t: f64) -> Derivatives
     requires { ⌜ T (validOrder order) × T (validLevel level) × (length (now a) ≡ order + 1) ⌝ }

@@ -7,7 +7,7 @@ ghost use Rattle.rules.specs.Questions.{firstNo};
 ghost use Rattle.rules.specs.Query.{validLevel, validLength, pathQuestions, bufferQuestions};
 use rules::PathRecord;
 
-// The level is 0, 2 or 3.
+// Q8: the level is 0, 2 or 3.
 fn valid_level(level: u8) -> bool
     ensures { λ r. ⌜ r ≡ validLevel level ⌝ }
 {
@@ -20,7 +20,7 @@ fn valid_level(level: u8) -> bool
     level == 3
 }
 
-// The buffer of derivative k: as long as the axes, or of any length where the level does not write it.
+// Q9, Q14: the buffer of derivative k: as long as the axes, or of any length where the level does not write it.
 fn valid_length(axes: usize, level: u8, k: u8, cells: usize) -> bool
     ensures { λ r. ⌜ r ≡ validLength axes level k cells ⌝ }
 {
@@ -47,7 +47,7 @@ fn valid_lengths(axes: usize, level: u8, q: usize, dq: usize, ddq: usize, dddq: 
     valid_length(axes, level, 3, dddq)
 }
 
-// The number of the first no, and 0 where all but the last question say yes.
+// G4: the number of the first no, and 0 where all but the last question say yes.
 pub fn query_questions(
     path: PathRecord,
     cells: usize,
@@ -67,34 +67,34 @@ pub fn query_questions(
     let s_min = path.s_min;
     let s_max = path.s_max;
     if !questions::valid_order(order) {
-        return 302;
+        return 302; // Q1
     }
     if segments < 1 {
-        return 304;
+        return 304; // Q2
     }
     if 256 < segments {
-        return 2;
+        return 2; // Q3
     }
     if axes < 1 {
-        return 300; // too few
+        return 300; // Q4: too few
     }
     if 8 < axes {
-        return 300; // too many
+        return 300; // Q4: too many
     }
     if !questions::valid_range(segments, s_min, s_max) {
-        return 301; // the range
+        return 301; // Q5
     }
     if inv != questions::inv_ds(segments, s_min, s_max) {
-        return 301; // not the range's quotient
+        return 301; // Q6: not the range's quotient
     }
     if cells != axes * segments * (order + 1) {
-        return 303;
+        return 303; // Q7
     }
     if !valid_level(level) {
-        return 308;
+        return 308; // Q8
     }
     if !valid_lengths(axes, level, q, dq, ddq, dddq) {
-        return 2;
+        return 2; // Q9
     }
     0 // every question but the last says yes
 }

@@ -13,7 +13,7 @@ pub fn is_finite(x: f64) -> bool
     x - x == 0.0
 }
 
-// Question 1 of a build, the first of a query and of a check.
+// B1, Q1, M1: is the order 3, 5 or 7?
 pub fn valid_order(order: usize) -> bool
     ensures { λ r. ⌜ r ≡ validOrder order ⌝ }
 {
@@ -26,7 +26,7 @@ pub fn valid_order(order: usize) -> bool
     order == 7
 }
 
-// inv_ds: how many segments come to a unit of s.
+// B8, Q6: inv_ds, how many segments come to a unit of s.
 pub fn inv_ds(segments: usize, s_min: PathParam, s_max: PathParam) -> f64
     requires { ⌜ segments ≤ 256 ⌝ }
     ensures { λ r. ⌜ r ≡ invDs segments «s_min» «s_max» ⌝ }
@@ -34,7 +34,7 @@ pub fn inv_ds(segments: usize, s_min: PathParam, s_max: PathParam) -> f64
     segments as f64 / (s_max.0 - s_min.0)
 }
 
-// Question 8. The quotient alone decides. A count divided by a NaN, an infinity, a zero or a number below
+// B8, Q5: the quotient alone decides. A count divided by a NaN, an infinity, a zero or a number below
 // zero is never both finite and above 0. So where the quotient is, s_max − s_min is too, and then s_min
 // and s_max are finite and s_min < s_max.
 pub fn valid_range(segments: usize, s_min: PathParam, s_max: PathParam) -> bool

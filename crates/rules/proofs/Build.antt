@@ -13,7 +13,7 @@ use Rattle.rules.specs.declared.BoundaryState.{BoundaryState}
 use Rattle.rules.specs.Tables.{mOf}
 use Rattle.rules.specs.Build.{BuildInput, validOrder, tableLength, buildQuestions, inputQuestions, pivotQuestions, buildNumber, segmentCoefficients, solvedSide, innerNumbers}
 use Rattle.rules.specs.Build.{nodeNumbers, axisCoefficients, axisState, table, bufferAfter}
-use Rattle.rules.proofs.Lists.{length-listed, length-joined}
+use Rattle.law_lists.proofs.Lists.{length-listed, length-joined}
 use Rattle.rules.proofs.Questions.{answerAt, said-yes}
 use Rattle.rules.proofs.Solve.{length-minus, length-solve}
 
@@ -78,6 +78,7 @@ by-order P x y z order t = go (either (eqb order 3 || eqb order 5) (eqb order 7)
 pub coefficient-count : (order : ℕ) → T (validOrder order) → 2 * mOf order + 2 ≡ order + 1
 coefficient-count = by-order (λ order. 2 * mOf order + 2 ≡ order + 1) refl refl refl
 
+-- B7, B14: the table fills the buffer exactly
 pub length-table : (b : BuildInput) → T (validOrder (b .config .order)) → 2 ≤ b .points
     → length (table b) ≡ tableLength (b .axes) (b .points - 1) (b .config .order)
 unfolding table
@@ -96,6 +97,7 @@ accepted-length b cells e =
     let yes-to : (k : ℕ) → T (answerAt (buildQuestions b cells) k) = said-yes (buildQuestions b cells) tt e in
     length-table b (yes-to 0) (leb→le 2 (b .points) (yes-to 1)) ∙ sym (eqb→eq cells _ (yes-to 7))
 
+-- D1: no buffer changes its length
 pub keeps-length : (b : BuildInput) (before : List Float) → length (bufferAfter b before) ≡ length before
 unfolding bufferAfter
 keeps-length b before = go (eqb (buildNumber b (length before)) 0) (eqb→eq (buildNumber b (length before)) 0)

@@ -1,13 +1,10 @@
-pub mod Lists
-pub mod Filling
+pub mod Matrices
 pub mod Cells
-pub mod Fills
-pub mod Parts
-pub mod Lent
+pub mod FilledList
 pub mod Questions
 pub mod Solve
 pub mod Build
-pub mod Answers
+pub mod BuildAnswers
 pub mod Query
 pub mod Master
 pub mod Pieces

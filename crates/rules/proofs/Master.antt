@@ -9,11 +9,11 @@ use lib.IntN.{ℤ, pos, negsuc}
 use lib.Ieee.Fits.{and-i, and-l, and-r}
 use Rattle.rules.specs.declared.MasterAnswer.{MasterAnswer}
 use Rattle.rules.specs.declared.MasterAnswer.the-variants.{Yes, No, Refused}
-use Rattle.rules.specs.Lists.{every}
+use Rattle.law_lists.specs.Lists.{every}
 use Rattle.rules.specs.Tables.{mOf}
 use Rattle.rules.specs.Master.{MasterSet, Equations, MasterSays, masterNumber, masterSays, same, segments}
 use Rattle.rules.specs.Master.{meetsLeft, meetsRight, meetsStart, meetsEnd, meetsJoints, endpointEquations, jointEquations, checkMaster}
-use Rattle.rules.proofs.Lists.{every-at, every-of}
+use Rattle.law_lists.proofs.Lists.{every-at, every-of}
 
 pub same→eq : (a b : ℤ) → T (same a b) → a ≡ b
 unfolding same
@@ -83,6 +83,7 @@ module _ (s : MasterSet) where
     every-of (n - 1) _ (λ i h. every-same _ _ _ (q .joint i h)),
   )
 
+  -- D2c: the check's yes is its equations
   pub yes-iff : T (checkMaster s .good) ↔ ((masterNumber s ≡ 0) × Equations s)
   unfolding checkMaster
   yes-iff = (
@@ -108,5 +109,6 @@ back Yes = refl
 back No = refl
 back (Refused number) = refl
 
+-- F11: no two answers say the same
 pub says-decides : (a b : MasterAnswer) → masterSays a ≡ masterSays b → a ≡ b
 says-decides a b e = sym (back a) ∙ ap answerOf e ∙ back b

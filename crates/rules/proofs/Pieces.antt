@@ -3,7 +3,7 @@
 use lib.Dec.{T}
 use lib.Ieee.{add, sub, mul, div, neg, lt, eq, le, ofInt, isNan, toBits}
 use Rattle.rules.specs.Floats.{sumOf}
-use Rattle.rules.specs.Lists.{joined, listed, all, every}
+use Rattle.law_lists.specs.Lists.{joined, listed, all, every}
 use Rattle.rules.specs.Questions.{firstNo}
 use Rattle.rules.specs.Fused.{exactProduct, fused}
 use Rattle.rules.specs.Tables.{m1, m2, m3, forOrder}
@@ -33,6 +33,7 @@ unfolding holds input buildOf exactly alike allAlike tableOf queryOf oneEach cur
     endpointEquations jointEquations checkMaster
 both = (tt, tt)
 
+-- P1: the single claim about the starred pieces
 pub starred-hold : T (all holds starred)
 starred-hold = both .0
 

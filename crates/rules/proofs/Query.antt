@@ -13,7 +13,7 @@ use Rattle.rules.specs.Floats.{_!_}
 use Rattle.rules.specs.Tables.{mOf}
 use Rattle.rules.specs.Build.{BuildInput, validOrder, acceptedRecord, dy, segmentCoefficients, nodeNumbers, axisCoefficients, axisWaypoints, axisState, table}
 use Rattle.rules.specs.Query.{QueryInput, Lengths, writes, validLength, queryQuestions, pathQuestions, bufferQuestions, rangeQuestions, queryNumber, segmentOf, derivative, derivativeAfter}
-use Rattle.rules.proofs.Lists.{length-listed, joined-twice}
+use Rattle.law_lists.proofs.Lists.{length-listed, joined-twice}
 use Rattle.rules.proofs.Questions.{said-yes}
 use Rattle.rules.proofs.Build.{coefficient-count, length-segment, length-node, length-state}
 
@@ -58,6 +58,7 @@ module _ (i : QueryInput) (n : Lengths) where
   unfolding derivative
   length-derivative k = length-listed _ _
 
+  -- D1: no buffer changes its length
   pub keeps-length : (k : ℕ) → k ≤ 3 → (before : List Float) → length before ≡ lengthOf n k → length (derivativeAfter i n k before) ≡ length before
   unfolding derivativeAfter
   keeps-length k h before e = go (eqb (queryNumber i n) 0) (writes (i .level) k) (eqb→eq (queryNumber i n) 0) (λ t. written (writes (i .level) k) (lengthOf n k) t)
@@ -81,6 +82,7 @@ module _ (b : BuildInput) (axis i : ℕ) where
   abbrev pub builtSegment : List Float
   builtSegment = segmentCoefficients m (axisWaypoints b axis ! i) (dy (axisWaypoints b axis) i) (node i) (node (suc i))
 
+  -- B14: a query takes for a segment of an axis what the build wrote for it
   pub read-back : T (validOrder (b .config .order)) → 2 ≤ b .points → axis < b .axes → i < b .points - 1
       → segmentOf (acceptedRecord b) (table b) axis i ≡ builtSegment
   unfolding segmentOf acceptedRecord table axisCoefficients

@@ -5,7 +5,7 @@ use Prim.Native.Nat.{ℕ, zero, suc}
 use lib.ListN.{length}
 use lib.Ieee.{Float}
 use Rattle.rules.specs.Solve.{minus, Factored, forward, backward, solve}
-use Rattle.rules.proofs.Lists.{length-listed}
+use Rattle.law_lists.proofs.Lists.{length-listed}
 
 pub length-minus : (m : ℕ) (v w : List Float) → length (minus m v w) ≡ m
 unfolding minus

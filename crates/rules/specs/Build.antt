@@ -13,7 +13,7 @@ use Rattle.rules.specs.declared.SplineConfig.{SplineConfig}
 use Rattle.rules.specs.declared.PathRecord.{PathRecord}
 use Rattle.rules.specs.declared.BuildAnswer.{BuildAnswer}
 use Rattle.rules.specs.Floats.{_⊕_, _⊖_, _⊗_, _⊘_, _!_, +0, ofCount, finite, sumOf}
-use Rattle.rules.specs.Lists.{joined, listed, all, every}
+use Rattle.law_lists.specs.Lists.{joined, listed, all, every}
 use Rattle.rules.specs.Questions.{Question, ask, firstNo}
 use Rattle.rules.specs.Tables.{mOf, A, C, R, H}
 use Rattle.rules.specs.Solve.{entry, times, minus, solve, nonzeroPivots, nodeFactors, solvedC}
@@ -30,44 +30,44 @@ pub record BuildInput : Type 0 where
 abbrev pub inputOf : SplineConfig → ℕ → ℕ → List Float → List Float → List Float → BuildInput
 inputOf config points axes waypoints start end = record { config = config; points = points; axes = axes; waypoints = waypoints; start = start; end = end }
 
--- "Waypoints are column-major, axes by points"; so are the numbers of a state, axes by m: an axis's number in column k
+-- B11, B12: "Waypoints are column-major, axes by points"; so are the numbers of a state, axes by m: an axis's number in column k
 abbrev pub ofAxis : ℕ → List Float → ℕ → ℕ → Float
 ofAxis axes xs axis k = xs ! (k * axes + axis)
 
 -- ---- questions before a build
 
--- 1. "Is the order 3, 5 or 7?"
+-- B1, Q1, M1: "Is the order 3, 5 or 7?"
 unfoldable pub validOrder : ℕ → Bool
 validOrder order = eqb order 3 || eqb order 5 || eqb order 7
 
--- 4. "1 to 8 axes?"
+-- B4, Q4: "1 to 8 axes?"
 unfoldable pub validAxes : ℕ → Bool
 validAxes axes = leb 1 axes && leb axes 8
 
--- 6. "Is the start state none, or axes by m with that many numbers?"
+-- B6: "Is the start state none, or axes by m with that many numbers?"
 unfoldable pub validState : ℕ → ℕ → BoundaryState → List Float → Bool
 validState axes m None numbers = true
 validState axes m (Given rows columns perUnit) numbers = eqb rows axes && eqb columns m && eqb (length numbers) (axes * m)
 
--- 7. "axes × segments × (order + 1)"
+-- B7, Q7: "axes × segments × (order + 1)"
 abbrev pub tableLength : ℕ → ℕ → ℕ → ℕ
 tableLength axes segments order = axes * segments * (order + 1)
 
--- 8. "segments / (s_max − s_min) as computed", which is inv_ds
+-- B8, Q6: "segments / (s_max − s_min) as computed", which is inv_ds
 unfoldable pub invDs : ℕ → PathParam → PathParam → Float
 invDs segments lo hi = ofCount segments ⊘ (hi .0 ⊖ lo .0)
 
--- "Are s_min and s_max finite, s_min < s_max, and [inv_ds] finite and above 0?"
+-- B8, Q5: "Are s_min and s_max finite, s_min < s_max, and [inv_ds] finite and above 0?"
 unfoldable pub validRange : ℕ → PathParam → PathParam → Bool
 validRange segments lo hi =
     finite (lo .0) && finite (hi .0) && lt (lo .0) (hi .0) && finite (invDs segments lo hi) && lt +0 (invDs segments lo hi)
 
--- 9. "Is every .. given state number finite?"
+-- B9: "Is every .. given state number finite?"
 unfoldable pub finiteState : BoundaryState → List Float → Bool
 finiteState None numbers = true
 finiteState (Given rows columns perUnit) numbers = all finite numbers
 
--- 10. "Is every pivot other than zero?": of the matrix at each of n inner nodes, which are the points between the first and the last
+-- B10: "Is every pivot other than zero?": of the matrix at each of n inner nodes, which are the points between the first and the last
 unfoldable pub everyPivot : ℕ → ℕ → Bool
 everyPivot m n = every n (λ i. nonzeroPivots m (nodeFactors m i))
 
@@ -77,20 +77,20 @@ inputQuestions b cells =
     let cfg = b .config in
     let m = mOf (cfg .order) in
     let segments = b .points - 1 in
-    ask (validOrder (cfg .order)) 302 ∷  -- 1
-    ask (leb 2 (b .points)) 304 ∷  -- 2
-    ask (leb (b .points) 257) 2 ∷  -- 3
-    ask (validAxes (b .axes)) 300 ∷  -- 4
-    ask (eqb (length (b .waypoints)) (b .axes * b .points)) 3 ∷  -- 5
-    ask (validState (b .axes) m (cfg .«start_state») (b .start)) 303 ∷  -- 6
-    ask (validState (b .axes) m (cfg .«end_state») (b .end)) 303 ∷
-    ask (eqb cells (tableLength (b .axes) segments (cfg .order))) 2 ∷  -- 7
-    ask (validRange segments (cfg .«s_min») (cfg .«s_max»)) 301 ∷  -- 8
-    ask (all finite (b .waypoints) && finiteState (cfg .«start_state») (b .start) && finiteState (cfg .«end_state») (b .end)) 4 ∷ []  -- 9
+    ask (validOrder (cfg .order)) 302 ∷  -- B1
+    ask (leb 2 (b .points)) 304 ∷  -- B2
+    ask (leb (b .points) 257) 2 ∷  -- B3
+    ask (validAxes (b .axes)) 300 ∷  -- B4
+    ask (eqb (length (b .waypoints)) (b .axes * b .points)) 3 ∷  -- B5
+    ask (validState (b .axes) m (cfg .«start_state») (b .start)) 303 ∷  -- B6
+    ask (validState (b .axes) m (cfg .«end_state») (b .end)) 303 ∷  -- B6
+    ask (eqb cells (tableLength (b .axes) segments (cfg .order))) 2 ∷  -- B7
+    ask (validRange segments (cfg .«s_min») (cfg .«s_max»)) 301 ∷  -- B8
+    ask (all finite (b .waypoints) && finiteState (cfg .«start_state») (b .start) && finiteState (cfg .«end_state») (b .end)) 4 ∷ []  -- B9
 
 -- about what factoring finds
 unfoldable pub pivotQuestions : BuildInput → List Question
-pivotQuestions b = ask (everyPivot (mOf (b .config .order)) (b .points - 2)) 307 ∷ []  -- 10
+pivotQuestions b = ask (everyPivot (mOf (b .config .order)) (b .points - 2)) 307 ∷ []  -- B10
 
 -- all questions before a build
 unfoldable pub buildQuestions : BuildInput → ℕ → List Question
@@ -101,7 +101,7 @@ buildNumber b cells = firstNo (buildQuestions b cells)
 
 -- ---- what a build answers
 
--- "the record: order, segments, axes, s_min, s_max, inv_ds and the mode"
+-- B13: "the record: order, segments, axes, s_min, s_max, inv_ds and the mode"
 unfoldable pub acceptedRecord : BuildInput → PathRecord
 acceptedRecord b = record {
   order = b .config .order;
@@ -113,7 +113,7 @@ acceptedRecord b = record {
   mode = b .config .«out_of_range_mode»;
 }
 
--- "the all-zero record with mode Error"
+-- B15: "the all-zero record with mode Error"
 unfoldable pub refusedRecord : PathRecord
 refusedRecord = record {
   order = 0;
@@ -125,7 +125,7 @@ refusedRecord = record {
   mode = Error;
 }
 
--- "A yes to all returns 0 and the record"; "A refusal returns its number and the all-zero record"
+-- B13, B15: "A yes to all returns 0 and the record"; "A refusal returns its number and the all-zero record"
 unfoldable pub buildAnswer : BuildInput → ℕ → BuildAnswer
 buildAnswer b cells =
     let number = buildNumber b cells in
@@ -133,11 +133,11 @@ buildAnswer b cells =
 
 -- ---- rules of the arithmetic: w are the waypoints of one axis
 
--- "dy = right minus left waypoint", of segment i
+-- R1: "dy = right minus left waypoint", of segment i
 unfoldable pub dy : List Float → ℕ → Float
 dy w i = w ! suc i ⊖ w ! i
 
--- "Upper coefficient i = (H[i,0] × dy + P) + Q; P sums the next m entries times the left node's numbers, Q the last m times the right node's."
+-- R2: "Upper coefficient i = (H[i,0] × dy + P) + Q; P sums the next m entries times the left node's numbers, Q the last m times the right node's."
 unfoldable pub upperCoefficient : ℕ → Float → List Float → List Float → ℕ → Float
 upperCoefficient m d left right i =
     let h : ℕ → Float = entry (1 + 2 * m) (H m) i in
@@ -145,34 +145,34 @@ upperCoefficient m d left right i =
     let q = sumOf m (λ j. h (1 + m + j) ⊗ right ! j) in
     (h 0 ⊗ d ⊕ p) ⊕ q
 
--- "Segment: left waypoint, left node's m numbers, the m + 1 upper ones."
+-- R4: "Segment: left waypoint, left node's m numbers, the m + 1 upper ones."
 unfoldable pub segmentCoefficients : ℕ → Float → Float → List Float → List Float → List Float
 segmentCoefficients m y d left right = y ∷ (left ++ listed (m + 1) (upperCoefficient m d left right))
 
--- "At inner node i the right side is R[·,0] × dy before + R[·,1] × dy after": inner node i, counted from 0, is between segments i and i + 1
+-- R5: "At inner node i the right side is R[·,0] × dy before + R[·,1] × dy after": inner node i, counted from 0, is between segments i and i + 1
 unfoldable pub rightSide : ℕ → List Float → ℕ → List Float
 rightSide m w i = listed m (λ r. entry 2 (R m) r 0 ⊗ dy w i ⊕ entry 2 (R m) r 1 ⊗ dy w (suc i))
 
 -- One axis with n inner nodes: its waypoints, and the m numbers of its first node and of its last.
 module _ (m n : ℕ) (w start end : List Float) where
-  -- "at the first node minus A·start; at the last then minus C·end"
+  -- R6, R7: "at the first node minus A·start; at the last then minus C·end"
   unfoldable pub boundedSide : ℕ → List Float
   boundedSide i =
       let v = rightSide m w i in
       let first = cond (eqb i 0) (minus m v (times m (A m) start)) v in
       cond (eqb (suc i) n) (minus m first (times m (C m) end)) first
 
-  -- "past the first then minus A times the previous solved right side"; "solved with" the node's matrix
+  -- R8, R10: "past the first then minus A times the previous solved right side"; "solved with" the node's matrix
   unfoldable pub solvedSide : ℕ → List Float
   solvedSide zero = solve m (nodeFactors m 0) (boundedSide 0)
   solvedSide (suc i) = solve m (nodeFactors m (suc i)) (minus m (boundedSide (suc i)) (times m (A m) (solvedSide i)))
 
-  -- "Back: u = solved right side − solved C · next u": the numbers of inner node i, which k inner nodes follow
+  -- R11: "Back: u = solved right side − solved C · next u": the numbers of inner node i, which k inner nodes follow
   unfoldable pub innerNumbers : ℕ → ℕ → List Float
   innerNumbers i zero = solvedSide i
   innerNumbers i (suc k) = minus m (solvedSide i) (times m (solvedC m i) (innerNumbers (suc i) k))
 
-  -- "a node's numbers are a part taken from the boundary numbers or from the solved list": of the first node, of the last, and between
+  -- F5: "a node's numbers are a part taken from the boundary numbers or from the solved list": of the first node, of the last, and between
   unfoldable pub nodeNumbers : ℕ → List Float
   nodeNumbers zero = start
   nodeNumbers (suc i) = cond (ltb i n) (innerNumbers i (n - suc i)) end
@@ -183,12 +183,12 @@ module _ (m n : ℕ) (w start end : List Float) where
 
 -- ---- the boundary numbers
 
--- divided k times, "one division after another"
+-- R20: divided k times, "one division after another"
 unfoldable pub divided : ℕ → Float → Float → Float
 divided zero x by = x
 divided (suc k) x by = divided k x by ⊘ by
 
--- Column r of an axis. "A node's numbers are Taylor coefficients in segment units, copied unscaled from the state", and a state that is none is "all zero".
+-- R19, R20, B12: column r of an axis. "A node's numbers are Taylor coefficients in segment units, copied unscaled from the state"; none is "all zero".
 -- "a state may be marked per unit of s; column r, counted from 0, is then divided by inv_ds r + 1 times"
 unfoldable pub boundaryNumber : ℕ → Float → BoundaryState → List Float → ℕ → ℕ → Float
 boundaryNumber axes inv None numbers axis r = +0
@@ -198,7 +198,7 @@ boundaryNumber axes inv (Given rows columns perUnit) numbers axis r =
 
 -- ---- the table
 
--- an axis's waypoints
+-- B11: an axis's waypoints
 unfoldable pub axisWaypoints : BuildInput → ℕ → List Float
 axisWaypoints b axis = listed (b .points) (ofAxis (b .axes) (b .waypoints) axis)
 
@@ -206,13 +206,13 @@ axisWaypoints b axis = listed (b .points) (ofAxis (b .axes) (b .waypoints) axis)
 unfoldable pub axisState : BuildInput → BoundaryState → List Float → ℕ → List Float
 axisState b state numbers axis = listed (mOf (b .config .order)) (boundaryNumber (b .axes) (acceptedRecord b .«inv_ds») state numbers axis)
 
--- "the coefficients, by axis, then segment, then power". An axis's are a function of its own waypoints and numbers.
+-- B14: "the coefficients, by axis, then segment, then power". An axis's are a function of its own waypoints and numbers.
 unfoldable pub table : BuildInput → List Float
 table b = joined (b .axes) (λ axis.
     axisCoefficients (mOf (b .config .order)) (b .points - 2) (axisWaypoints b axis)
     (axisState b (b .config .«start_state») (b .start) axis)
     (axisState b (b .config .«end_state») (b .end) axis))
 
--- the buffer afterwards: "The buffer holds the coefficients"; at a refusal "the buffer is untouched, also at question 10"
+-- D1, D2a, B14, B16: the buffer afterwards: "The buffer holds the coefficients"; at a refusal "the buffer is untouched, also at question 10"
 unfoldable pub bufferAfter : BuildInput → List Float → List Float
 bufferAfter b before = cond (eqb (buildNumber b (length before)) 0) (table b) before

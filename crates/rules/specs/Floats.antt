@@ -1,4 +1,4 @@
--- Floats, by the head of document 01: "f64, IEEE 754, nearest, ties to even". The values and their rounding are the kit's `lib.Ieee`;
+-- G1: floats, by the head of document 01: "f64, IEEE 754, nearest, ties to even". The values and their rounding are the kit's `lib.Ieee`;
 -- ⊕ ⊖ ⊗ ⊘ are its sum, difference, product and quotient, each rounded once. `≡` between floats is the very value, a zero's sign included.
 -- Assumes nothing.
 use Prim.Native.Nat.{ℕ, zero, suc}
@@ -52,7 +52,7 @@ magnitude (fin s m e) = fin false m e
 abbrev pub _!_ : List Float → ℕ → Float
 xs ! i = getD xs i +0
 
--- "Every sum of products runs left to right, first product unaccompanied": f 0 ⊕ f 1 ⊕ .. ⊕ f (n − 1), which starts at f 0 and not at a zero.
+-- R3: "Every sum of products runs left to right, first product unaccompanied": f 0 ⊕ f 1 ⊕ .. ⊕ f (n − 1), which starts at f 0 and not at a zero.
 -- (No sum of the rules is empty.)
 unfoldable pub sumOf : ℕ → (ℕ → Float) → Float
 sumOf zero f = +0

@@ -7,7 +7,7 @@ use lib.IntN.{_+ℤ_}
 use lib.Dec.{eqb}
 use lib.Ieee.{Float, nan, inf, fin, Format, unlike, add}
 
--- a × b with nothing rounded: digits times digits, at the sum of the exponents. Zero times infinity is NaN.
+-- R29, R30, R31: a × b with nothing rounded: digits times digits, at the sum of the exponents. Zero times infinity is NaN.
 unfoldable pub exactProduct : Float → Float → Float
 exactProduct nan y = nan
 exactProduct (inf s) nan = nan
@@ -17,6 +17,6 @@ exactProduct (fin s m e) nan = nan
 exactProduct (fin s m e) (inf t) = cond (eqb m 0) nan (inf (unlike s t))
 exactProduct (fin s m e) (fin t n d) = fin (unlike s t) (m * n) (e +ℤ d)
 
--- a × b + c, rounded once
+-- D2a, G2, R29, R30, R31: a × b + c, rounded once
 unfoldable pub fused : Format → Float → Float → Float → Float
 fused f a b c = add f (exactProduct a b) c

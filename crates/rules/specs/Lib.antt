@@ -1,5 +1,4 @@
 pub mod Floats
-pub mod Lists
 pub mod Questions
 pub mod Fused
 pub mod Tables

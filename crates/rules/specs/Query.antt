@@ -15,7 +15,7 @@ use Rattle.rules.specs.declared.PathRecord.{PathRecord}
 use Rattle.rules.specs.declared.Lookup.{Lookup}
 use Rattle.rules.specs.declared.Lookup.the-variants.{At, OutOfRange}
 use Rattle.rules.specs.Floats.{_⊕_, _⊖_, _⊗_, _!_, +0, +1, ofCount}
-use Rattle.rules.specs.Lists.{listed}
+use Rattle.law_lists.specs.Lists.{listed}
 use Rattle.rules.specs.Questions.{Question, ask, firstNo}
 use Rattle.rules.specs.Fused.{fused}
 use Rattle.rules.specs.Build.{validOrder, validAxes, tableLength, invDs, validRange}
@@ -52,24 +52,24 @@ lengthsOf b = record { q = length (b .q); dq = length (b .dq); ddq = length (b .
 
 -- ---- questions before a query. Derivative 0 is the position.
 
--- "level 0, 2 or 3"
+-- Q8: "level 0, 2 or 3"
 unfoldable pub validLevel : ℕ → Bool
 validLevel level = eqb level 0 || eqb level 2 || eqb level 3
 
--- "Level 0 writes positions, 2 adds first and second derivatives, 3 the third": whether a level writes derivative k
+-- Q13: "Level 0 writes positions, 2 adds first and second derivatives, 3 the third": whether a level writes derivative k
 abbrev pub writes : ℕ → ℕ → Bool
 writes level k = leb k level
 
--- "each buffer that the level writes as long as the axes": derivative k's buffer. "buffers above the level may have any length"
+-- Q9, Q14: "each buffer that the level writes as long as the axes": derivative k's buffer. "buffers above the level may have any length"
 abbrev pub validLength : ℕ → ℕ → ℕ → ℕ → Bool
 validLength axes level k cells = not (writes level k) || eqb cells axes
 
--- "s not NaN and, in mode Error, s_min ≤ s ≤ s_max"
+-- Q10: "s not NaN and, in mode Error, s_min ≤ s ≤ s_max"
 unfoldable pub inRange : OutOfRangeMode → PathParam → PathParam → PathParam → Bool
 inRange Error lo hi s = not (isNan (s .0)) && le (lo .0) (s .0) && le (s .0) (hi .0)
 inRange Clamp lo hi s = not (isNan (s .0))
 
--- "question 8, and inv_ds equal to that quotient"
+-- Q5, Q6: "question 8, and inv_ds equal to that quotient"
 abbrev pub validPathRange : PathRecord → Bool
 validPathRange p =
     let lo = p .«s_min» in
@@ -79,23 +79,23 @@ validPathRange p =
 -- the questions about a path with so many coefficients, in order
 unfoldable pub pathQuestions : PathRecord → ℕ → List Question
 pathQuestions p cells =
-    ask (validOrder (p .order)) 302 ∷
-    ask (leb 1 (p .segments)) 304 ∷
-    ask (leb (p .segments) 256) 2 ∷
-    ask (validAxes (p .axes)) 300 ∷
-    ask (validPathRange p) 301 ∷
-    ask (eqb cells (tableLength (p .axes) (p .segments) (p .order))) 303 ∷ []
+    ask (validOrder (p .order)) 302 ∷  -- Q1
+    ask (leb 1 (p .segments)) 304 ∷  -- Q2
+    ask (leb (p .segments) 256) 2 ∷  -- Q3
+    ask (validAxes (p .axes)) 300 ∷  -- Q4
+    ask (validPathRange p) 301 ∷  -- Q5, Q6
+    ask (eqb cells (tableLength (p .axes) (p .segments) (p .order))) 303 ∷ []  -- Q7
 
 -- about the level, and buffers of such lengths
 unfoldable pub bufferQuestions : ℕ → ℕ → Lengths → List Question
 bufferQuestions axes level n =
     let valid : ℕ → ℕ → Bool = validLength axes level in
-    ask (validLevel level) 308 ∷
-    ask (valid 0 (n .q) && valid 1 (n .dq) && valid 2 (n .ddq) && valid 3 (n .dddq)) 2 ∷ []
+    ask (validLevel level) 308 ∷  -- Q8
+    ask (valid 0 (n .q) && valid 1 (n .dq) && valid 2 (n .ddq) && valid 3 (n .dddq)) 2 ∷ []  -- Q9
 
 -- about s
 unfoldable pub rangeQuestions : PathRecord → PathParam → List Question
-rangeQuestions p s = ask (inRange (p .mode) (p .«s_min») (p .«s_max») s) 305 ∷ []
+rangeQuestions p s = ask (inRange (p .mode) (p .«s_min») (p .«s_max») s) 305 ∷ []  -- Q10
 
 -- all questions before a query
 unfoldable pub queryQuestions : QueryInput → Lengths → List Question
@@ -106,17 +106,18 @@ queryNumber i n = firstNo (queryQuestions i n)
 
 -- ---- the lookup
 
--- "in Clamp, s is first set to the nearest end"
+-- R21: "in Clamp, s is first set to the nearest end"
 unfoldable pub clamped : OutOfRangeMode → PathParam → PathParam → PathParam → PathParam
 clamped Error lo hi s = s
 clamped Clamp lo hi s = cond (lt (s .0) (lo .0)) lo (cond (lt (hi .0) (s .0)) hi s)
 
--- "scaled = (s − s_min) × inv_ds"
+-- R22: "scaled = (s − s_min) × inv_ds"
 unfoldable pub scaled : PathRecord → PathParam → SegmentUnits
 scaled p s = record { 0 = (s .0 ⊖ p .«s_min» .0) ⊗ p .«inv_ds» }
 
--- "whole part and exact rest" of a number above 0, m × 2^k or m / 2^(k + 1) with m odd. The first has no rest; the second leaves a remainder, odd like m,
--- over 2^(k + 1). So the rest is the exact difference, and nothing rounds it. (NaN has whole part 0 and rest NaN, as in the source. `located` asks for no infinity.)
+-- R25: "whole part and exact rest" of a number above 0, m × 2^k or m / 2^(k + 1) with m odd. The first has no rest; the second leaves a remainder, odd like m,
+-- over 2^(k + 1). So the rest is the exact difference, and nothing rounds it.
+-- (NaN has whole part 0 and rest NaN, as in the source. `located` asks for no infinity.)
 unfoldable pub wholePart : Float → ℕ
 wholePart nan = 0
 wholePart (inf s) = 0
@@ -129,21 +130,21 @@ exactRest (inf s) = nan
 exactRest (fin s m (pos k)) = +0
 exactRest (fin s m (negsuc k)) = fin false (m % 2 ^ suc k) (negsuc k)
 
--- "At or below 0: segment 0, tau 0. At or above the segment count: last, tau 1. Else whole part and exact rest."
+-- R23, R24, R25: "At or below 0: segment 0, tau 0. At or above the segment count: last, tau 1. Else whole part and exact rest."
 unfoldable pub located : ℕ → SegmentUnits → Lookup
 located segments x =
     cond (le (x .0) +0) (At 0 (record { 0 = +0 }))
     (cond (le (ofCount segments) (x .0)) (At (segments - 1) (record { 0 = +1 }))
     (At (wholePart (x .0)) (record { 0 = exactRest (x .0) })))
 
--- "The lookup answers a segment with its tau, or 305 with the s given."
+-- Q11, R21, R22: "The lookup answers a segment with its tau, or 305 with the s given."
 unfoldable pub lookup : PathRecord → PathParam → Lookup
 lookup p s =
     cond (inRange (p .mode) (p .«s_min») (p .«s_max») s)
     (located (p .segments) (scaled p (clamped (p .mode) (p .«s_min») (p .«s_max») s)))
     (OutOfRange s)
 
--- Document 01's number and values of each case of a lookup's answer: the value is tau, or the s that was refused.
+-- F11, Q11: document 01's number and values of each case of a lookup's answer: the value is tau, or the s that was refused.
 pub record LookupSays : Type 0 where
   pub number : ℕ
   pub segment : ℕ
@@ -155,7 +156,7 @@ lookupSays (OutOfRange s) = record { number = 305; segment = 0; value = s .0 }
 
 -- ---- the evaluation of a segment's coefficients a at t: derivative k in segment units
 
--- the factor of coefficient j in derivative k, j × (j − 1) × .. of k factors: "order 5 second derivative: 20, 12, 6, 2"
+-- R26: the factor of coefficient j in derivative k, j × (j − 1) × .. of k factors: "order 5 second derivative: 20, 12, 6, 2"
 unfoldable pub derivativeFactor : ℕ → ℕ → ℕ
 derivativeFactor j zero = 1
 derivativeFactor j (suc k) = j * derivativeFactor (j - 1) k
@@ -164,7 +165,7 @@ derivativeFactor j (suc k) = j * derivativeFactor (j - 1) k
 unfoldable pub term : List Float → ℕ → ℕ → Float
 term a k j = cond (eqb (derivativeFactor j k) 1) (a ! j) (ofCount (derivativeFactor j k) ⊗ a ! j)
 
--- "fused steps": from the last term down, what is found times t plus the term before, rounded once
+-- R26: "fused steps": from the last term down, what is found times t plus the term before, rounded once
 unfoldable pub fusedSteps : Float → List Float → Float
 fusedSteps t [] = +0
 fusedSteps t (x ∷ []) = x
@@ -181,7 +182,7 @@ pub record LoopState : Type 0 where
   pub b2 : Float
   pub b3 : Float
 
--- "the general loop, product and sum rounded apart": from the last coefficient down, as the source's `eval_poly` has it
+-- R27: "the general loop, product and sum rounded apart": from the last coefficient down, as the source's `eval_poly` has it
 unfoldable pub generalLoop : Float → List Float → LoopState
 generalLoop t [] = record { b0 = +0; b1 = +0; b2 = +0; b3 = +0 }
 generalLoop t (x ∷ []) = record { b0 = x; b1 = +0; b2 = +0; b3 = +0 }
@@ -201,13 +202,13 @@ loopDerivative b (suc zero) = b .b1
 loopDerivative b (suc (suc zero)) = b .b2
 loopDerivative b (suc (suc (suc k))) = b .b3
 
--- "Orders 3 and 5 evaluate by fused steps"; "Order 7 uses the general loop"
+-- R26, R27: "Orders 3 and 5 evaluate by fused steps"; "Order 7 uses the general loop"
 unfoldable pub evalPoly : ℕ → List Float → Float → ℕ → Float
 evalPoly order a t k = cond (eqb order 7) (loopDerivative (generalLoop t a) k) (fusedDerivative order a t k)
 
 -- ---- the four buffers
 
--- "Derivatives are then multiplied by inv_ds, by inv_ds², by inv_ds² × inv_ds."
+-- R28: "Derivatives are then multiplied by inv_ds, by inv_ds², by inv_ds² × inv_ds."
 unfoldable pub perUnitOfS : Float → ℕ → Float → Float
 perUnitOfS inv zero x = x
 perUnitOfS inv (suc zero) x = x ⊗ inv
@@ -227,11 +228,11 @@ derivative i k =
     listed (p .axes) (λ axis.
     perUnitOfS (p .«inv_ds») k (evalPoly (p .order) (segmentOf p (i .coefficients) axis (found .segment)) (found .value) k))
 
--- derivative k's buffer afterwards. "Refused: no output buffer changes"; "buffers above the level .. are untouched"
+-- Q12, Q13, Q14: derivative k's buffer afterwards. "Refused: no output buffer changes"; "buffers above the level .. are untouched"
 unfoldable pub derivativeAfter : QueryInput → Lengths → ℕ → List Float → List Float
 derivativeAfter i n k before = cond (eqb (queryNumber i n) 0 && writes (i .level) k) (derivative i k) before
 
--- what a query answers, and the buffers that it leaves
+-- D1, D2a, Q12: what a query answers, and the buffers that it leaves
 pub record Queried (i : QueryInput) (before : Buffers) (number : ℕ) (after : Buffers) : Type 0 where
   pub number-is : number ≡ queryNumber i (lengthsOf before)
   pub q-is : after .q ≡ derivativeAfter i (lengthsOf before) 0 (before .q)

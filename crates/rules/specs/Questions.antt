@@ -8,7 +8,7 @@ use mathlib.Core.List.{List, [], _∷_}
 pub data Question : Type 0 where
   ask : Bool → ℕ → Question
 
--- the number of the first no, and 0 where every answer is yes
+-- G4: the number of the first no, and 0 where every answer is yes
 unfoldable pub firstNo : List Question → ℕ
 firstNo [] = 0
 firstNo (ask true n ∷ rest) = firstNo rest

@@ -7,7 +7,7 @@ use lib.ListN.{getD}
 use lib.Dec.{leb, ltb, eqb}
 use lib.Ieee.{Float, lt, eq}
 use Rattle.rules.specs.Floats.{_⊖_, _⊗_, _⊘_, _!_, +0, +1, magnitude, sumOf}
-use Rattle.rules.specs.Lists.{joined, listed, every}
+use Rattle.law_lists.specs.Lists.{joined, listed, every}
 use Rattle.rules.specs.Tables.{A, B, C}
 
 -- ---- matrices, and lists of m numbers
@@ -35,7 +35,7 @@ pub record Factored : Type 0 where
   pub entries : List Float
   pub rows : List ℕ
 
--- "greatest magnitude at or below the diagonal, first of equals": its row, of column k and the rows k to k + d
+-- R12: "greatest magnitude at or below the diagonal, first of equals": its row, of column k and the rows k to k + d
 unfoldable pub pivotRow : ℕ → List Float → ℕ → ℕ → ℕ
 pivotRow m a k zero = k
 pivotRow m a k (suc d) =
@@ -43,18 +43,18 @@ pivotRow m a k (suc d) =
     let next = k + suc d in
     cond (lt (magnitude (entry m a best k)) (magnitude (entry m a next k))) next best
 
--- which row comes to stand at row i when the rows k and p are exchanged
+-- R13: which row comes to stand at row i when the rows k and p are exchanged
 unfoldable pub exchange : ℕ → ℕ → ℕ → ℕ
 exchange k p i = cond (eqb i k) p (cond (eqb i p) k i)
 
--- "rows exchanged": whole rows, so with the multipliers that they have by then
+-- R13: "rows exchanged": whole rows, so with the multipliers that they have by then
 unfoldable pub exchanged : ℕ → ℕ → ℕ → Factored → Factored
 exchanged m k p f = record {
   entries = matrix m m (λ i j. entry m (f .entries) (exchange k p i) j);
   rows = listed m (λ i. getD (f .rows) (exchange k p i) 0);
 }
 
--- "multipliers are entry times the rounded reciprocal of the pivot; subtract column by column": below row k the multipliers take the place of column k,
+-- R14, R15: "multipliers are entry times the rounded reciprocal of the pivot; subtract column by column": below row k they take the place of column k,
 -- and a multiplier times row k's entry is subtracted from each entry to the right
 unfoldable pub eliminated : ℕ → ℕ → Factored → Factored
 eliminated m k f =
@@ -75,23 +75,24 @@ factorSteps m a (suc k) =
     let f = factorSteps m a k in
     eliminated m k (exchanged m k (pivotRow m (f .entries) k (m - suc k)) f)
 
+-- R12, R13, R14, R15: all m steps
 unfoldable pub factor : ℕ → List Float → Factored
 factor m a = factorSteps m a m
 
--- "Is every pivot other than zero?" The pivots are the diagonal of the factored matrix.
+-- B10: "Is every pivot other than zero?" The pivots are the diagonal of the factored matrix.
 unfoldable pub nonzeroPivots : ℕ → Factored → Bool
 nonzeroPivots m f = every m (λ k. not (eq (entry m (f .entries) k k) +0))
 
 -- ---- solving: "each number once found, its products are subtracted one at a time from the rows still to be solved"
 
--- "Solve forward from the first row": the right side with its rows exchanged, after the first k rows
+-- R16, R18: "Solve forward from the first row": the right side with its rows exchanged, after the first k rows
 unfoldable pub forward : ℕ → Factored → List Float → ℕ → List Float
 forward m f b zero = listed m (λ i. b ! getD (f .rows) i 0)
 forward m f b (suc k) =
     let y = forward m f b k in
     listed m (λ i. cond (leb i k) (y ! i) (y ! i ⊖ entry m (f .entries) i k ⊗ y ! k))
 
--- "then back from the last by division": after the last d rows
+-- R17, R18: "then back from the last by division": after the last d rows
 unfoldable pub backward : ℕ → Factored → List Float → ℕ → List Float
 backward m f b zero = forward m f b m
 backward m f b (suc d) =
@@ -100,6 +101,7 @@ backward m f b (suc d) =
     let x = y ! k ⊘ entry m (f .entries) k k in
     listed m (λ i. cond (ltb i k) (y ! i ⊖ entry m (f .entries) i k ⊗ x) (cond (eqb i k) x (y ! i)))
 
+-- R16, R17, R18: forward, then back
 unfoldable pub solve : ℕ → Factored → List Float → List Float
 solve m f b = backward m f b m
 
@@ -107,7 +109,7 @@ solve m f b = backward m f b m
 unfoldable pub column : ℕ → List Float → ℕ → List Float
 column m a j = listed m (λ i. entry m a i j)
 
--- an m by m matrix solved, column by column
+-- R10: an m by m matrix solved, column by column
 unfoldable pub solveMatrix : ℕ → Factored → List Float → List Float
 solveMatrix m f a =
     let columns = listed m (λ j. solve m f (column m a j)) in
@@ -115,7 +117,7 @@ solveMatrix m f a =
 
 -- ---- the matrices of the inner nodes, which m and the node's place alone decide
 
--- "The matrix is B, past the first B − A·(previous solved C)": at inner node i, counted from 0
+-- R9: "The matrix is B, past the first B − A·(previous solved C)": at inner node i, counted from 0
 unfoldable pub nodeMatrix : ℕ → ℕ → List Float
 nodeMatrix m zero = B m
 nodeMatrix m (suc i) =
@@ -125,6 +127,6 @@ nodeMatrix m (suc i) =
 unfoldable pub nodeFactors : ℕ → ℕ → Factored
 nodeFactors m i = factor m (nodeMatrix m i)
 
--- "solved C" at inner node i
+-- R10: "solved C" at inner node i
 unfoldable pub solvedC : ℕ → ℕ → List Float
 solvedC m i = solveMatrix m (nodeFactors m i) (C m)

@@ -6,6 +6,7 @@ use lib.IntN.{ℤ, pos, negℤ}
 use lib.Ieee.{Float}
 use Rattle.rules.specs.Floats.{ofInts}
 
+-- G3: m
 abbrev pub mOf : ℕ → ℕ
 mOf order = (order - 1) / 2
 
@@ -20,6 +21,7 @@ pub record BlockMatrices : Type 0 where
 abbrev pub neg : ℕ → ℤ
 neg n = negℤ (pos n)
 
+-- T1: the tables of m = 1
 unfoldable pub m1 : BlockMatrices
 m1 = record {
   a = pos 1 ∷ [];
@@ -31,6 +33,7 @@ m1 = record {
       neg 2 ∷ pos 1 ∷ pos 1 ∷ [];
 }
 
+-- T2: the tables of m = 2
 unfoldable pub m2 : BlockMatrices
 m2 = record {
   a =
@@ -51,6 +54,7 @@ m2 = record {
       pos 6 ∷ neg 3 ∷ neg 1 ∷ neg 3 ∷ pos 1 ∷ [];
 }
 
+-- T3: the tables of m = 3
 unfoldable pub m3 : BlockMatrices
 m3 = record {
   a =

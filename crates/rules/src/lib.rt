@@ -1,10 +1,10 @@
 // The types that travel between calls. What they mean, and what every function of the library is
 // held to, stands in specs/: document 01 as definitions, a file a subject. This crate has no code.
 
-// A position along s: the source's path parameter.
+// F1: a position along s: the source's path parameter.
 pub struct PathParam(pub f64);
 
-// A position counted in segments: the source's normalised segment units. A segment's tau is one.
+// F1: a position counted in segments: the source's normalised segment units. A segment's tau is one.
 pub struct SegmentUnits(pub f64);
 
 // What a query does with an s outside the range: refuse it, or set it to the nearest end.
@@ -13,7 +13,7 @@ pub enum OutOfRangeMode {
     Clamp,
 }
 
-// A boundary state: none, which is all zero, or so many rows (axes) and columns (numbers of a node).
+// B12: a boundary state: none, which is all zero, or so many rows (axes) and columns (numbers of a node).
 // The numbers are a slice beside it, column-major, and nobody looks at it where the state is none.
 pub enum BoundaryState {
     None,
@@ -34,7 +34,7 @@ pub struct SplineConfig {
     pub end_state: BoundaryState,
 }
 
-// What a path is beside its coefficients. It is handed over by value, its three floats with it.
+// F6, B13: what a path is beside its coefficients. It is handed over by value, its three floats with it.
 pub struct PathRecord {
     pub order: usize,
     pub segments: usize,
@@ -45,19 +45,19 @@ pub struct PathRecord {
     pub mode: OutOfRangeMode,
 }
 
-// A build's answer: 0 or the refusal's number, with the record beside it.
+// F8, B13, B15: a build's answer: 0 or the refusal's number, with the record beside it.
 pub struct BuildAnswer {
     pub number: u32,
     pub path: PathRecord,
 }
 
-// A lookup's answer: a segment with its tau, or the s that was refused.
+// F3, F8, Q11: a lookup's answer: a segment with its tau, or the s that was refused.
 pub enum Lookup {
     At { segment: usize, tau: SegmentUnits },
     OutOfRange(PathParam),
 }
 
-// A master check's answer. No is not a refusal.
+// F8, M8: a master check's answer. No is not a refusal.
 pub enum MasterAnswer {
     Yes,
     No,

@@ -11,7 +11,7 @@ use lib.Ieee.{Float}
 use Rattle.rules.specs.Tables.{mOf}
 use Rattle.rules.specs.Build.{BuildInput, validOrder, buildQuestions, inputQuestions, pivotQuestions, buildNumber}
 use Rattle.rules.specs.Build.{axisCoefficients, axisWaypoints, axisState, table}
-use Rattle.rules.proofs.Lists.{joined-part}
+use Rattle.law_lists.proofs.Lists.{joined-part}
 use Rattle.rules.proofs.Questions.{answerAt, said-yes}
 use Rattle.rules.proofs.Build.{length-axis, length-state, coefficient-count}
 use Rattle.theorems.specs.Independent.{axisPart}

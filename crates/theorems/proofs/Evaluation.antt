@@ -15,11 +15,11 @@ use Rattle.law_rounding.specs.Whole.{wholeOf}
 use Rattle.law_rounding.proofs.Whole.{HasWhole, whole-test, whole-number, ofInt-whole, mul-whole, Within, within-add, within-mul}
 use Rattle.rules.specs.Floats.{_⊕_, _⊗_, _!_, +0, +1, ofCount}
 use Rattle.rules.specs.Fused.{exactProduct, fused}
-use Rattle.rules.specs.Lists.{all, every, listed}
+use Rattle.law_lists.specs.Lists.{all, every, listed}
 use Rattle.rules.specs.Build.{validOrder}
 use Rattle.rules.specs.Query.{derivativeFactor, term, fusedSteps, fusedDerivative, generalLoop, loopDerivative, evalPoly}
-use Rattle.rules.proofs.Lists.{all-at, every-at, length-listed}
-use Rattle.rules.proofs.Filling.{listed-at}
+use Rattle.law_lists.proofs.Lists.{all-at, every-at, length-listed}
+use Rattle.law_lists.proofs.Filling.{listed-at}
 use Rattle.rules.proofs.Build.{by-order}
 use Rattle.theorems.specs.Exact.{wholeWithin}
 use Rattle.theorems.specs.Evaluation.{IsNumber, derivativeAt0, derivativeAt1, WholeNumbersEvaluateExactly}

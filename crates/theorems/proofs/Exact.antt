@@ -18,15 +18,15 @@ use Rattle.rules.specs.declared.BoundaryState.{BoundaryState}
 use Rattle.rules.specs.declared.BoundaryState.the-variants.{None, Given}
 use Rattle.rules.specs.declared.MasterAnswer.the-variants.{Yes, Refused}
 use Rattle.rules.specs.Floats.{_⊖_, _!_, +0}
-use Rattle.rules.specs.Lists.{all, every, listed, joined}
+use Rattle.law_lists.specs.Lists.{all, every, listed, joined}
 use Rattle.rules.specs.Questions.{ask, firstNo}
 use Rattle.rules.specs.Tables.{mOf}
 use Rattle.rules.specs.Build.{BuildInput, buildNumber, validOrder, dy, segmentCoefficients, nodeNumbers, axisCoefficients, axisWaypoints, axisState}
 use Rattle.rules.specs.Master.{MasterSet, MasterSays, Equations, within, at, coefficient}
 use Rattle.rules.specs.Master.{masterQuestions, sizeQuestions, lengthQuestions, numberQuestions, masterNumber}
 use Rattle.rules.specs.Master.{meetsJoints, endpointEquations, jointEquations, checkMaster, masterSays}
-use Rattle.rules.proofs.Lists.{all-at, all-of, length-listed}
-use Rattle.rules.proofs.Filling.{all-listed, listed-ext}
+use Rattle.law_lists.proofs.Lists.{all-at, all-of, length-listed}
+use Rattle.law_lists.proofs.Filling.{all-listed, listed-ext}
 use Rattle.rules.proofs.Master.{of-equations}
 use Rattle.rules.proofs.Build.{length-segment, coefficient-count}
 use Rattle.theorems.specs.Independent.{marked, givenNumber, axisPart}

@@ -15,12 +15,12 @@ use lib.Ieee.Fits.{and-l, and-r}
 use Rattle.law_rounding.specs.Whole.{isWhole, wholeOf}
 use Rattle.law_rounding.proofs.Whole.{HasWhole, has-whole, ofInt-whole, Within, within-add, within-sub, within-mul}
 use Rattle.rules.specs.Floats.{_⊖_, _⊗_, _!_, +0, ofInts, sumOf}
-use Rattle.rules.specs.Lists.{all, listed}
+use Rattle.law_lists.specs.Lists.{all, listed}
 use Rattle.rules.specs.Tables.{forOrder}
 use Rattle.rules.specs.Build.{upperCoefficient, segmentCoefficients}
 use Rattle.rules.specs.Master.{within, at, sumℤ}
-use Rattle.rules.proofs.Lists.{all-at}
-use Rattle.rules.proofs.Filling.{listed-at}
+use Rattle.law_lists.proofs.Lists.{all-at}
+use Rattle.law_lists.proofs.Filling.{listed-at}
 use Rattle.theorems.specs.Exact.{wholeWithin}
 use Rattle.theorems.proofs.Sums.{form, unit, form-unit, sum-same, sum-split}
 use Rattle.theorems.proofs.Tables.{upperForm, coefficientForm, smallEntries, TableFacts}

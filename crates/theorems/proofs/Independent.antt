@@ -7,10 +7,10 @@ use lib.Ieee.{Float}
 use Rattle.rules.specs.declared.BoundaryState.{BoundaryState}
 use Rattle.rules.specs.declared.BoundaryState.the-variants.{None, Given}
 use Rattle.rules.specs.Floats.{_!_}
-use Rattle.rules.specs.Lists.{listed}
+use Rattle.law_lists.specs.Lists.{listed}
 use Rattle.rules.specs.Tables.{mOf}
 use Rattle.rules.specs.Build.{BuildInput, acceptedRecord, divided, boundaryNumber, axisWaypoints, axisState}
-use Rattle.rules.proofs.Filling.{listed-ext}
+use Rattle.law_lists.proofs.Filling.{listed-ext}
 use Rattle.theorems.specs.Independent.{marked, givenNumber, Alike, AxesAreIndependent}
 use Rattle.theorems.proofs.AxisPart.{coefficientsOf, part-is}
 

@@ -16,13 +16,13 @@ use Rattle.law_integers.proofs.Laws.{one-*ℤ, *ℤ-assoc}
 use Rattle.law_rounding.specs.Whole.{isWhole}
 use Rattle.rules.specs.declared.MasterAnswer.the-variants.{Yes, Refused}
 use Rattle.rules.specs.Floats.{_!_, +0, +1}
-use Rattle.rules.specs.Lists.{all}
+use Rattle.law_lists.specs.Lists.{all}
 use Rattle.rules.specs.Tables.{mOf}
 use Rattle.rules.specs.Build.{BuildInput, validOrder, buildNumber, axisWaypoints}
 use Rattle.rules.specs.Master.{MasterSet, MasterSays, Equations, within, coefficient, binomial, sumℤ, atEnd, segments}
 use Rattle.rules.specs.Master.{masterQuestions, sizeQuestions, lengthQuestions, numberQuestions, masterNumber, checkMaster, masterSays}
 use Rattle.rules.specs.Query.{derivativeFactor, evalPoly}
-use Rattle.rules.proofs.Lists.{all-at, all-of, length-listed}
+use Rattle.law_lists.proofs.Lists.{all-at, all-of, length-listed}
 use Rattle.rules.proofs.Questions.{said-yes}
 use Rattle.rules.proofs.Build.{by-order, coefficient-count}
 use Rattle.rules.proofs.Master.{yes-iff}

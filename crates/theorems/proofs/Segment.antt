@@ -9,7 +9,7 @@ use lib.IntN.{ℤ, pos, _+ℤ_, _*ℤ_}
 use lib.ListN.{length, List·getD-append}
 use lib.Seq.{getD-append-add}
 use Rattle.rules.specs.Master.{at, coefficient, binomial, atEnd}
-use Rattle.rules.proofs.Lists.{every-at}
+use Rattle.law_lists.proofs.Lists.{every-at}
 use Rattle.rules.proofs.Master.{same→eq}
 use Rattle.theorems.proofs.Sums.{form, unit, sum-same, form-same, form-add, form-sum, form-unit}
 use Rattle.theorems.proofs.Tables.{upperForm, coefficientForm, endForm, endsRight, TableFacts}

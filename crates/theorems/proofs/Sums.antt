@@ -10,7 +10,7 @@ use lib.Dec.{eqb}
 use lib.IntN.{ℤ, pos, _+ℤ_, _*ℤ_, +ℤ-idl, +ℤ-idr, +ℤ-comm, +ℤ-assoc, zero-*ℤ, *ℤ-zero}
 use Rattle.law_integers.proofs.Laws.{+ℤ-swap, one-*ℤ, +ℤ-*ℤ, *ℤ-+ℤ, *ℤ-assoc}
 use Rattle.rules.specs.Master.{sumℤ}
-use Rattle.rules.proofs.Lists.{below-suc}
+use Rattle.law_lists.proofs.Lists.{below-suc}
 
 -- ---- sums
 

@@ -4,7 +4,7 @@ use mathlib.Core.Bool.{Bool, cond}
 use Prim.Native.Nat.{ℕ, zero, suc, _+_, _-_, _*_}
 use lib.Dec.{T, leb, ltb}
 use lib.IntN.{ℤ, pos, natAbs, _+ℤ_, _*ℤ_}
-use Rattle.rules.specs.Lists.{all, every}
+use Rattle.law_lists.specs.Lists.{all, every}
 use Rattle.rules.specs.Tables.{mOf, m1, m2, m3, forOrder}
 use Rattle.rules.specs.Build.{validOrder}
 use Rattle.rules.specs.Master.{at, binomial, sumℤ, same}

@@ -10,7 +10,7 @@ use lib.ListN.{length}
 use lib.Ieee.{Float}
 use Rattle.law_rounding.specs.Whole.{isWhole, wholeOf}
 use Rattle.rules.specs.Floats.{_!_, +0, +1}
-use Rattle.rules.specs.Lists.{all}
+use Rattle.law_lists.specs.Lists.{all}
 use Rattle.rules.specs.Build.{validOrder}
 use Rattle.rules.specs.Master.{sumℤ}
 use Rattle.rules.specs.Query.{derivativeFactor, evalPoly}
@@ -33,7 +33,7 @@ pub record ExactAtEnds (order : ℕ) (a : List Float) (k : ℕ) : Type 0 where
   pub at0 : IsNumber (evalPoly order a +0 k) (derivativeAt0 (λ j. wholeOf (a ! j)) k)
   pub at1 : IsNumber (evalPoly order a +1 k) (derivativeAt1 (order + 1) (λ j. wholeOf (a ! j)) k)
 
--- the theorem
+-- F2: the theorem
 unfoldable pub WholeNumbersEvaluateExactly : Type 0
 WholeNumbersEvaluateExactly =
     (order : ℕ) (a : List Float) (k : ℕ) → T (validOrder order) → length a ≡ order + 1 → T (all wholeWithin a) → k ≤ 3 → ExactAtEnds order a k

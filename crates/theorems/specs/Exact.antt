@@ -12,7 +12,7 @@ use Rattle.law_rounding.specs.Whole.{isWhole, wholeOf}
 use Rattle.rules.specs.declared.BoundaryState.{BoundaryState}
 use Rattle.rules.specs.declared.BoundaryState.the-variants.{None, Given}
 use Rattle.rules.specs.declared.MasterAnswer.the-variants.{Yes, Refused}
-use Rattle.rules.specs.Lists.{all, listed}
+use Rattle.law_lists.specs.Lists.{all, listed}
 use Rattle.rules.specs.Tables.{mOf}
 use Rattle.rules.specs.Build.{BuildInput, buildNumber, axisWaypoints}
 use Rattle.rules.specs.Master.{MasterSet, within, Equations, endpointEquations, checkMaster, masterSays}
@@ -60,7 +60,7 @@ pub record Exact (part : List Float) (s : MasterSet) : Type 0 where
   -- "The check says yes to each axis whose coefficients are within ±2^40 too; otherwise it gives 4."
   pub check : checkMaster s ≡ masterSays (cond (all within (s .table)) Yes (Refused 4))
 
--- the theorem: a build, accepted into a buffer of so many cells
+-- D2b, R32, R33: the theorem: a build, accepted into a buffer of so many cells
 unfoldable pub TwoPointsAreExact : Type 0
 TwoPointsAreExact =
     (b : BuildInput) (cells axis : ℕ) → buildNumber b cells ≡ 0 → WholeTwoPoints b → axis < b .axes → Exact (axisPart b axis) (axisSet b axis)

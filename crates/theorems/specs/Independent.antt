@@ -43,7 +43,7 @@ pub record Alike (b b′ : BuildInput) (axis axis′ : ℕ) : Type 0 where
   pub end : (r : ℕ) → r < mOf (b .config .order)
       → givenNumber (b .axes) (b .config .«end_state») (b .end) axis r ≡ givenNumber (b′ .axes) (b′ .config .«end_state») (b′ .end) axis′ r
 
--- the theorem: two builds, each accepted into a buffer of so many cells
+-- R34: the theorem: two builds, each accepted into a buffer of so many cells
 unfoldable pub AxesAreIndependent : Type 0
 AxesAreIndependent =
     (b b′ : BuildInput) (cells cells′ axis axis′ : ℕ) → buildNumber b cells ≡ 0 → buildNumber b′ cells′ ≡ 0 → axis < b .axes → axis′ < b′ .axes

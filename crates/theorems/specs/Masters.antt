@@ -10,7 +10,7 @@ use lib.ListN.{length}
 use lib.Ieee.{Float}
 use Rattle.law_rounding.specs.Whole.{isWhole, wholeOf}
 use Rattle.rules.specs.Floats.{_!_, +0, +1}
-use Rattle.rules.specs.Lists.{all}
+use Rattle.law_lists.specs.Lists.{all}
 use Rattle.rules.specs.Tables.{mOf}
 use Rattle.rules.specs.Build.{BuildInput, buildNumber}
 use Rattle.rules.specs.Master.{MasterSet, within, at, coefficient, segments, checkMaster}

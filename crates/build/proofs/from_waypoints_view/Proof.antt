@@ -12,7 +12,7 @@ use lib.Ieee.{Float}
 use Rattle.rules.specs.declared.PathRecord.{PathRecord}
 use Rattle.rules.specs.Questions.{firstNo}
 use Rattle.rules.specs.Build.{BuildInput, inputQuestions, buildNumber}
-use Rattle.rules.proofs.Answers.{no-number, pivot-number, yes-number, refused-answer, accepted-answer, refused-buffer, accepted-buffer}
+use Rattle.rules.proofs.BuildAnswers.{no-number, pivot-number, yes-number, refused-answer, accepted-answer, refused-buffer, accepted-buffer}
 use Rattle.rules.specs.Build.{inputOf}
 use Rattle.build_axes.specs.AllAxes.{allAxes}
 use Rattle.build.proofs.Answered.{planOf, order-known, points-known, planned, cells-are, table-is}

@@ -5,11 +5,11 @@ use Prim.Native.Nat.{ℕ, _+_, _-_, _*_, _≤_}
 use native.Mathlib.Omega.{arith}
 use lib.ListN.{length}
 use Rattle.rules.specs.Build.{axisCoefficients}
-use Rattle.rules.proofs.Lists.{length-listed, part-inside}
+use Rattle.law_lists.proofs.Lists.{length-listed, part-inside}
 use Rattle.rules.proofs.Build.{length-axis}
-use Rattle.rules.proofs.Cells.{next-part}
-use Rattle.rules.proofs.Parts.{Parted, none, kept, step, whole}
-use Rattle.rules.proofs.Lent.{part-size, part-length}
+use Rattle.law_lists.proofs.Places.{next-part}
+use Rattle.law_lists.proofs.PartedList.{Parted, none, kept, step, whole}
+use Rattle.law_lists.proofs.Lent.{part-size, part-length}
 use Rattle.build_segments.specs.declared.Plan.{Plan}
 use Rattle.build_thomas.specs.Axis.{waypointsOf}
 use Rattle.build_axes.specs.AllAxes.{axisTable}

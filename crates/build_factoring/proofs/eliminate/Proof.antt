@@ -7,7 +7,7 @@ use lib.ListN.{length}
 use lib.Ieee.{Float, ofBits}
 use Rattle.rules.specs.Floats.{_⊘_, +1}
 use Rattle.build_factoring.specs.Steps.{eliminatedTo}
-use Rattle.rules.proofs.Lists.{part-inside}
+use Rattle.law_lists.proofs.Lists.{part-inside}
 use Rattle.rules.proofs.Cells.{entry-read}
 use Rattle.build_factoring.proofs.Elimination.{elimination-start, elimination-all}
 use Rattle.build_factoring.proofs.eliminate.Statement.{statement}

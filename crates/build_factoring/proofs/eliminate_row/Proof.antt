@@ -7,7 +7,7 @@ use lib.ListN.{length, length-set}
 use lib.Ieee.{Float}
 use Rattle.rules.specs.Floats.{_⊗_}
 use Rattle.rules.specs.Solve.{entry}
-use Rattle.rules.proofs.Lists.{part-inside}
+use Rattle.law_lists.proofs.Lists.{part-inside}
 use Rattle.build_factoring.proofs.Elimination.{rowDone, multiplier-is, row-start, row-step, row-done}
 use Rattle.build_factoring.proofs.eliminate_row.Statement.{statement}
 use Rattle.build_factoring.proofs.eliminate_row.Tie as tie

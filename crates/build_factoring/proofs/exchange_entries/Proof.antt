@@ -4,7 +4,7 @@ use Prim.Native.Nat.{_+_, _-_, _*_, _≤_}
 use native.Mathlib.Omega.{arith}
 use lib.ListN.{length, length-set}
 use Rattle.rules.specs.Solve.{matrix}
-use Rattle.rules.proofs.Lists.{part-inside}
+use Rattle.law_lists.proofs.Lists.{part-inside}
 use Rattle.build_factoring.proofs.Exchange.{exchangedTo, exchange-none, exchange-all, exchange-step}
 use Rattle.build_factoring.proofs.exchange_entries.Statement.{statement}
 use Rattle.build_factoring.proofs.exchange_entries.Tie as tie

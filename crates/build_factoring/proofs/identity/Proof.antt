@@ -3,7 +3,7 @@ use mathlib.Core.Path.{_≡_, refl, sym, _∙_}
 use Prim.Native.Nat.{_-_, _≤_}
 use native.Mathlib.Omega.{arith}
 use lib.ListN.{length, length-set}
-use Rattle.rules.proofs.Filling.{filled, filled-none, filled-set, filled-all}
+use Rattle.law_lists.proofs.Filling.{filled, filled-none, filled-set, filled-all}
 use Rattle.build_factoring.proofs.identity.Statement.{statement}
 use Rattle.build_factoring.proofs.identity.Tie as tie
 

@@ -5,10 +5,10 @@ use Prim.Native.Nat.{_+_, _*_, _-_, _≤_, _<_}
 use native.Mathlib.Omega.{arith}
 use lib.Ieee.{eq, ofBits}
 use Rattle.rules.specs.Floats.{+0}
-use Rattle.rules.specs.Lists.{every}
+use Rattle.law_lists.specs.Lists.{every}
 use Rattle.rules.specs.Solve.{entry, nonzeroPivots}
-use Rattle.rules.proofs.Cells.{cell-inside}
-use Rattle.rules.proofs.Lists.{every-fails, every-more}
+use Rattle.law_lists.proofs.Places.{cell-inside}
+use Rattle.law_lists.proofs.Lists.{every-fails, every-more}
 use Rattle.build_factoring.proofs.Pivots.{pivot-test}
 use Rattle.build_factoring.proofs.nonzero_pivots.Statement.{statement}
 use Rattle.build_factoring.proofs.nonzero_pivots.Tie as tie

@@ -6,7 +6,7 @@ use Prim.Native.Nat.{suc, _+_, _*_, _-_, _≤_, _<_}
 use native.Mathlib.Omega.{arith}
 use lib.Ieee.{lt}
 use Rattle.rules.specs.Solve.{pivotRow}
-use Rattle.rules.proofs.Cells.{cell-inside}
+use Rattle.law_lists.proofs.Places.{cell-inside}
 use Rattle.build_factoring.proofs.Pivots.{pivot-step}
 use Rattle.build_factoring.proofs.pivot_row.Statement.{statement}
 use Rattle.build_factoring.proofs.pivot_row.Tie as tie

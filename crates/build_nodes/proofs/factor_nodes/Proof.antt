@@ -6,15 +6,15 @@ use mathlib.Core.Logic.{⊎-elim}
 use Prim.Native.Nat.{_+_, _*_, _-_, _≤_}
 use native.Mathlib.Omega.{arith}
 use borrow.Author.Needs.{needs}
-use Rattle.rules.specs.Lists.{every}
+use Rattle.law_lists.specs.Lists.{every}
 use Rattle.rules.specs.Solve.{nonzeroPivots, nodeFactors, solvedC}
 use Rattle.rules.specs.Build.{everyPivot}
 use Rattle.build_block.specs.Columns.{transposed}
 use Rattle.build_nodes.specs.NodeLists.{nodeEntries, nodeRows, nodeSolved}
-use Rattle.rules.proofs.Lists.{part-inside, every-more}
-use Rattle.rules.proofs.Cells.{next-part}
+use Rattle.law_lists.proofs.Lists.{part-inside, every-more}
+use Rattle.law_lists.proofs.Places.{next-part}
 use Rattle.build_nodes.proofs.Nodes.{length-entries, length-node-rows, length-solved}
-use Rattle.rules.proofs.Parts.{Parted, none, kept, step, own, later}
+use Rattle.law_lists.proofs.PartedList.{Parted, none, kept, step, own, later}
 use Rattle.build_nodes.proofs.factor_nodes.Statement.{statement}
 use Rattle.build_nodes.proofs.factor_nodes.Tie as tie
 

@@ -5,7 +5,7 @@ use Prim.Native.Nat.{ℕ, _+_, _*_, _-_}
 use native.Mathlib.Omega.{arith}
 use borrow.Author.Needs.{needs}
 use lib.ListN.{length}
-use Rattle.rules.proofs.Cells.{next-part}
+use Rattle.law_lists.proofs.Places.{next-part}
 use Rattle.build_nodes.proofs.Nodes.{first-matrix, node-after}
 use Rattle.build_block.proofs.Transposed.{rows-long, columns-long}
 use Rattle.build_nodes.proofs.node_entries.Statement.{statement}

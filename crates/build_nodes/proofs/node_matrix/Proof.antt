@@ -3,13 +3,13 @@
 use Prim.Native.Nat.{_+_, _*_, _-_, _≤_}
 use native.Mathlib.Omega.{arith}
 use borrow.Author.Needs.{needs}
-use Rattle.rules.specs.Lists.{listed}
+use Rattle.law_lists.specs.Lists.{listed}
 use Rattle.rules.specs.Solve.{matrix}
-use Rattle.rules.proofs.Lists.{length-listed, part-inside}
+use Rattle.law_lists.proofs.Lists.{length-listed, part-inside}
 use Rattle.build_block.specs.Columns.{transposed}
 use Rattle.build_nodes.specs.Steps.{nextEntry}
-use Rattle.rules.proofs.Parts.{Parted, none, kept, step, whole}
-use Rattle.rules.proofs.Cells.{next-part}
+use Rattle.law_lists.proofs.PartedList.{Parted, none, kept, step, whole}
+use Rattle.law_lists.proofs.Places.{next-part}
 use Rattle.build_nodes.proofs.node_matrix.Statement.{statement}
 use Rattle.build_nodes.proofs.node_matrix.Tie as tie
 

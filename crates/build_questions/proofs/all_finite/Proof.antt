@@ -5,8 +5,8 @@ use native.Mathlib.Omega.{arith}
 use lib.ListN.{length, drop}
 use borrow.Author.Needs.{needs}
 use Rattle.rules.specs.Floats.{finite}
-use Rattle.rules.specs.Lists.{all}
-use Rattle.rules.proofs.Lists.{all-none-left, all-next}
+use Rattle.law_lists.specs.Lists.{all}
+use Rattle.law_lists.proofs.Lists.{all-none-left, all-next}
 use Rattle.questions.proofs.Tests.{no, yes}
 use Rattle.build_questions.proofs.all_finite.Statement.{statement}
 use Rattle.build_questions.proofs.all_finite.Tie as tie

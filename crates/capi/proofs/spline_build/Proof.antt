@@ -11,7 +11,7 @@ use lib.Ieee.{Float}
 use Rattle.rules.specs.declared.BuildAnswer.{BuildAnswer}
 use Rattle.rules.specs.Build.{BuildInput, invDs, acceptedRecord, buildNumber, buildAnswer, bufferAfter}
 use Rattle.rules.specs.Build.{inputOf}
-use Rattle.capi.specs.Export.{stateOf, configOf}
+use Rattle.capi_numbers.specs.Meaning.{stateOf, configOf}
 use Rattle.capi.proofs.spline_build.Statement.{statement}
 use Rattle.capi.proofs.spline_build.Tie as tie
 
@@ -53,21 +53,6 @@ built p =
     let q = p .before .before in
     rw (q .before .before .mode-of .ensures, q .before .state-of .ensures, q .state-of2 .ensures) at (p .from-waypoints-view .ensures)
 
-mode-of-requires : tie.Need-mode-of-requires
-mode-of-requires c κs = search needs
-
-state-of-requires : tie.Need-state-of-requires
-state-of-requires c κs = search needs
-
-state-of-requires-2 : tie.Need-state-of-requires-2
-state-of-requires-2 c κs = search needs
-
-from-waypoints-view-requires : tie.Need-from-waypoints-view-requires
-from-waypoints-view-requires c κs = search needs
-
-same-length : tie.Need-same-length
-same-length c = search needs
-
 returns : tie.Need-returns
 returns c =
     let p = c .before .before .before .before in
@@ -75,9 +60,6 @@ returns c =
     let b = given p in
     let cells = length (buffer p) in
     (number-is b cells _ (h .0), h .1, written b cells _ (h .0) _ (c .if1 .taken))
-
-same-length-2 : tie.Need-same-length-2
-same-length-2 c = search needs
 
 returns-2 : tie.Need-returns-2
 returns-2 c =
@@ -91,11 +73,11 @@ pub spline-build-spec : {M : Type 1} → statement M
 spline-build-spec =
     tie.close
     (tie.spec
-    mode-of-requires
-    state-of-requires
-    state-of-requires-2
-    from-waypoints-view-requires
-    same-length
+    (λ c κs. search needs)
+    (λ c κs. search needs)
+    (λ c κs. search needs)
+    (λ c κs. search needs)
+    (λ c. search needs)
     returns
-    same-length-2
+    (λ c. search needs)
     returns-2)

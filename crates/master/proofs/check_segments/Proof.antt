@@ -10,10 +10,10 @@ use lib.IntN.{ℤ}
 use lib.ListN.{length, drop}
 use borrow.Author.Needs.{needs}
 use Rattle.rules.specs.declared.MasterAnswer.the-variants.{Refused}
-use Rattle.rules.specs.Lists.{all, every}
+use Rattle.law_lists.specs.Lists.{all, every}
 use Rattle.rules.specs.Master.{within, meetsStart, masterSays}
 use Rattle.law_rounding.proofs.Sums.{and-true}
-use Rattle.rules.proofs.Lists.{and-assoc, every-more}
+use Rattle.law_lists.proofs.Lists.{and-assoc, every-more}
 use Rattle.master_equations.specs.Segment.{segmentMeets}
 use Rattle.master.specs.Pass.{meetsUpTo, passSays}
 use Rattle.master.proofs.Pass.{left-next, none-left}

@@ -11,12 +11,12 @@ use borrow.Author.Needs.{needs}
 use Rattle.rules.specs.Floats.{_⊗_}
 use Rattle.rules.specs.Query.{writes, evalPoly, perUnitOfS, segmentOf}
 use Rattle.rules.proofs.Fills as Fills
-use Rattle.rules.proofs.Fills.{Filled}
+use Rattle.rules.proofs.FilledList.{Filled}
 use Rattle.query_poly.specs.declared.Derivatives.{Derivatives}
 use Rattle.query_poly.specs.Level.{asked}
 use Rattle.query_axes.specs.Evaluation.{derivativeAt}
 use Rattle.query_axes.proofs.AxesLoop as Axes
-use Rattle.rules.proofs.Lent.{part-size, part-length}
+use Rattle.law_lists.proofs.Lent.{part-size, part-length}
 use Rattle.query_axes.proofs.AxesLoop.{Written, cell, order-bound, segments-bound, table-bound, segment-inside, part-inside-all, asked-for}
 use Rattle.query_axes.proofs.eval_axes.Statement.{statement}
 use Rattle.query_axes.proofs.eval_axes.Tie as tie

@@ -3,7 +3,7 @@ use mathlib.Core.Path.{_≡_, _∙_}
 use Prim.Native.Nat.{ℕ}
 use borrow.Author.Needs.{needs}
 use lib.Ieee.{Float, ofBits, ofInt}
-use Rattle.rules.specs.Lists.{listed}
+use Rattle.law_lists.specs.Lists.{listed}
 use Rattle.rules.specs.Query.{derivativeFactor, fusedDerivative}
 use Rattle.query_poly.proofs.Levels.{is-3, asked-0, asked-2, asked-3}
 use Rattle.query_poly.proofs.FusedSteps.{last, step, derivative-is}

@@ -1,6 +1,6 @@
 -- `query_poly::cubic_position` meets its contract: its steps are the position's. Assumes nothing.
 use borrow.Author.Needs.{needs}
-use Rattle.rules.specs.Lists.{listed}
+use Rattle.law_lists.specs.Lists.{listed}
 use Rattle.rules.specs.Query.{derivativeFactor}
 use Rattle.query_poly.proofs.FusedSteps.{last, step, derivative-is}
 use Rattle.query_poly.proofs.cubic_position.Statement.{statement}

@@ -5,9 +5,9 @@ use native.Mathlib.Omega.{arith}
 use borrow.Author.Needs.{needs}
 use lib.ListN.{length}
 use Rattle.rules.specs.Floats.{_!_, +0}
-use Rattle.rules.proofs.Filling.{listed-of}
+use Rattle.law_lists.proofs.Filling.{listed-of}
 use Rattle.rules.proofs.Cells.{read}
-use Rattle.rules.proofs.Fills.{Filled, none, kept, step, whole}
+use Rattle.rules.proofs.FilledList.{Filled, none, kept, step, whole}
 use Rattle.build_block.proofs.products.copy.Statement.{statement}
 use Rattle.build_block.proofs.products.copy.Tie as tie
 

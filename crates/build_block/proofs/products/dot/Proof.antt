@@ -7,8 +7,9 @@ use native.Mathlib.Omega.{arith}
 use borrow.Author.Needs.{needs}
 use lib.ListN.{length}
 use Rattle.rules.specs.Floats.{_⊗_, _!_, sumOf}
-use Rattle.rules.proofs.Lists.{part-inside}
-use Rattle.rules.proofs.Cells.{read, next-part}
+use Rattle.law_lists.proofs.Lists.{part-inside}
+use Rattle.rules.proofs.Cells.{read}
+use Rattle.law_lists.proofs.Places.{next-part}
 use Rattle.build_block.proofs.Sums.{sumOf-one, sumOf-more}
 use Rattle.build_block.proofs.products.dot.Statement.{statement}
 use Rattle.build_block.proofs.products.dot.Tie as tie

@@ -6,7 +6,7 @@ use borrow.Author.Needs.{needs}
 use Rattle.rules.specs.Floats.{_⊖_, _!_}
 use Rattle.rules.specs.Solve.{times, minus}
 use Rattle.build_block.specs.Columns.{transposed}
-use Rattle.rules.proofs.Fills.{Filled, none, kept, step, left, whole}
+use Rattle.rules.proofs.FilledList.{Filled, none, kept, step, left, whole}
 use Rattle.build_block.proofs.Transposed.{times-at}
 use Rattle.build_block.proofs.products.subtract_product.Statement.{statement}
 use Rattle.build_block.proofs.products.subtract_product.Tie as tie

@@ -8,8 +8,9 @@ use borrow.Author.Tests.{lt-ltb, le-ltb, eq-eqb, ne-eqb}
 use lib.Ieee.{Float}
 use lib.ListN.{set, length}
 use Rattle.build_block.specs.Steps.{found, backwardCell, backwardStep}
-use Rattle.rules.proofs.Cells.{read, cell-inside}
-use Rattle.rules.proofs.Fills.{Filled, none, kept, step, left, on, whole}
+use Rattle.rules.proofs.Cells.{read}
+use Rattle.law_lists.proofs.Places.{cell-inside}
+use Rattle.rules.proofs.FilledList.{Filled, none, kept, step, left, on, whole}
 use Rattle.build_block.proofs.solve.backward_step.Statement.{statement}
 use Rattle.build_block.proofs.solve.backward_step.Tie as tie
 

@@ -6,8 +6,9 @@ use borrow.Author.Needs.{needs}
 use borrow.Author.Tests.{le-leb, lt-leb}
 use lib.ListN.{length}
 use Rattle.build_block.specs.Steps.{forwardCell, forwardStep}
-use Rattle.rules.proofs.Cells.{read, cell-inside}
-use Rattle.rules.proofs.Fills.{Filled, start, kept, step, left, whole}
+use Rattle.rules.proofs.Cells.{read}
+use Rattle.law_lists.proofs.Places.{cell-inside}
+use Rattle.rules.proofs.FilledList.{Filled, start, kept, step, left, whole}
 use Rattle.build_block.proofs.solve.forward_step.Statement.{statement}
 use Rattle.build_block.proofs.solve.forward_step.Tie as tie
 

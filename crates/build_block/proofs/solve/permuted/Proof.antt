@@ -5,7 +5,7 @@ use native.Mathlib.Omega.{arith}
 use borrow.Author.Needs.{needs}
 use lib.ListN.{length, getD}
 use Rattle.rules.specs.Floats.{_!_}
-use Rattle.rules.proofs.Fills.{Filled, none, kept, step, whole}
+use Rattle.rules.proofs.FilledList.{Filled, none, kept, step, whole}
 use Rattle.rules.proofs.Cells.{read}
 use Rattle.build_block.proofs.solve.permuted.Statement.{statement}
 use Rattle.build_block.proofs.solve.permuted.Tie as tie

@@ -7,10 +7,10 @@ use borrow.Author.Needs.{needs}
 use Rattle.rules.specs.Solve.{solve, column}
 use Rattle.rules.proofs.Solve.{length-solve}
 use Rattle.build_block.specs.Columns.{transposed}
-use Rattle.rules.proofs.Lists.{part-inside}
-use Rattle.rules.proofs.Cells.{next-part}
+use Rattle.law_lists.proofs.Lists.{part-inside}
+use Rattle.law_lists.proofs.Places.{next-part}
 use Rattle.build_block.proofs.Columns.{part-column, solved-columns}
-use Rattle.rules.proofs.Parts.{Parted, none, kept, step, whole}
+use Rattle.law_lists.proofs.PartedList.{Parted, none, kept, step, whole}
 use Rattle.build_block.proofs.solve.solve_matrix.Statement.{statement}
 use Rattle.build_block.proofs.solve.solve_matrix.Tie as tie
 

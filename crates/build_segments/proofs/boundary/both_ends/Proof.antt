@@ -5,8 +5,8 @@ use lib.ListN.{length, take, drop}
 use lib.Seq.{take-at, drop-at}
 use lib.Ieee.{Float}
 use Prim.Native.Nat.{ℕ, _+_, _-_}
-use Rattle.rules.proofs.Lists.{length-listed}
-use Rattle.rules.proofs.Lent.{both-halves}
+use Rattle.law_lists.proofs.Lists.{length-listed}
+use Rattle.law_lists.proofs.Lent.{both-halves}
 use Rattle.build_segments.specs.Given.{endNumbers}
 use Rattle.build_segments.specs.NodeNumbers.{firstOf, lastOf}
 use borrow.Author.Needs.{needs}

@@ -8,7 +8,7 @@ use lib.Ieee.{Float}
 use Rattle.rules.specs.Floats.{+0}
 use Rattle.rules.specs.Build.{boundaryNumber}
 use Rattle.build_segments.proofs.States.{fewer}
-use Rattle.rules.proofs.Filling.{filled, filled-none, filled-set, filled-all}
+use Rattle.law_lists.proofs.Filling.{filled, filled-none, filled-set, filled-all}
 use borrow.Author.Needs.{needs}
 use Rattle.build_segments.proofs.boundary.boundary_numbers.Statement.{statement}
 use Rattle.build_segments.proofs.boundary.boundary_numbers.Tie as tie

@@ -9,7 +9,7 @@ use lib.ListN.{length, getD, length-set}
 use lib.Ieee.{Float, nan}
 use Rattle.rules.specs.Floats.{_⊗_, _⊕_, _!_, +0}
 use Rattle.rules.specs.Solve.{entry}
-use Rattle.rules.proofs.Filling.{filled, filled-none, filled-set, filled-all}
+use Rattle.law_lists.proofs.Filling.{filled, filled-none, filled-set, filled-all}
 use Rattle.rules.proofs.Cells.{read}
 use borrow.Author.Needs.{needs}
 use Rattle.build_segments.proofs.segment.compute_rhs.Statement.{statement}

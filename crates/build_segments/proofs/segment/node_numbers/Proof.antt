@@ -3,10 +3,10 @@ use mathlib.Core.Path.{sym, _∙_}
 use Prim.Native.Nat.{_-_, _*_}
 use native.Mathlib.Nat.{sub-zero}
 use native.Mathlib.Omega.{arith}
-use Rattle.rules.proofs.Lists.{part-inside}
+use Rattle.law_lists.proofs.Lists.{part-inside}
 use Rattle.build_segments.specs.NodeNumbers.{nodePart}
 use Rattle.build_segments.proofs.Nodes.{last-part, inner-part}
-use Rattle.rules.proofs.Lent.{part-size}
+use Rattle.law_lists.proofs.Lent.{part-size}
 use borrow.Author.Needs.{needs}
 use Rattle.build_segments.proofs.segment.node_numbers.Statement.{statement}
 use Rattle.build_segments.proofs.segment.node_numbers.Tie as tie

@@ -3,10 +3,10 @@ use Prim.Native.Nat.{_+_, _-_, _*_, _≤_}
 use native.Mathlib.Omega.{arith}
 use lib.ListN.{length}
 use Rattle.rules.specs.Build.{upperCoefficient}
-use Rattle.rules.proofs.Lists.{part-inside}
+use Rattle.law_lists.proofs.Lists.{part-inside}
 use Rattle.rules.proofs.Cells.{read}
 use Rattle.build_block.proofs.Transposed.{rows-long}
-use Rattle.rules.proofs.Fills.{Filled, none, kept, step, whole}
+use Rattle.rules.proofs.FilledList.{Filled, none, kept, step, whole}
 use Rattle.build_segments.proofs.Upper.{upper-is}
 use borrow.Author.Needs.{needs}
 use Rattle.build_segments.proofs.segment.upper_coeffs.Statement.{statement}

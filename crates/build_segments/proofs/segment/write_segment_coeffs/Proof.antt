@@ -3,8 +3,8 @@ use Prim.Native.Nat.{_+_}
 use native.Mathlib.Omega.{arith}
 use lib.ListN.{length-set}
 use Rattle.rules.specs.Build.{upperCoefficient, segmentCoefficients}
-use Rattle.rules.specs.Lists.{listed}
-use Rattle.rules.proofs.Lists.{length-listed}
+use Rattle.law_lists.specs.Lists.{listed}
+use Rattle.law_lists.proofs.Lists.{length-listed}
 use Rattle.build_segments.proofs.Segments.{assembled}
 use borrow.Author.Needs.{needs}
 use Rattle.build_segments.proofs.segment.write_segment_coeffs.Statement.{statement}

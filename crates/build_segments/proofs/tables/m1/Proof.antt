@@ -1,7 +1,7 @@
 -- `build_segments::tables::m1` meets its contract: antt computes both sides of each table. Assumes nothing.
 use mathlib.Core.Path.{refl}
 use lib.Ieee.{neg, ofBits, ofInt}
-use Rattle.rules.specs.Lists.{joined, listed}
+use Rattle.law_lists.specs.Lists.{joined, listed}
 use Rattle.rules.specs.Tables.{m1, forOrder}
 use Rattle.rules.specs.Solve.{matrix}
 use Rattle.build_block.specs.Columns.{transposed}

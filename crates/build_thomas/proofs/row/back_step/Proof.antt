@@ -9,9 +9,9 @@ use lib.Ieee.{Float}
 use Rattle.rules.specs.Solve.{times, minus, solvedC}
 use Rattle.build_block.specs.Columns.{transposed}
 use Rattle.build_block.proofs.Transposed.{transposed-twice}
-use Rattle.rules.proofs.Cells.{next-part}
+use Rattle.law_lists.proofs.Places.{next-part}
 use Rattle.build_thomas.proofs.Back.{length-solvedC}
-use Rattle.rules.proofs.Lent.{part-size}
+use Rattle.law_lists.proofs.Lent.{part-size}
 use Rattle.build_thomas.specs.Axis.{put}
 use borrow.Author.Needs.{needs}
 use Rattle.build_thomas.proofs.row.back_step.Statement.{statement}

@@ -7,7 +7,7 @@ use native.Mathlib.Nat.{mul-le-mul-right}
 use native.Mathlib.Omega.{arith}
 use lib.ListN.{length, take, drop, take-append-drop}
 use lib.Ieee.{Float}
-use Rattle.rules.specs.Lists.{joined}
+use Rattle.law_lists.specs.Lists.{joined}
 use Rattle.rules.specs.Build.{solvedSide}
 use Rattle.build_thomas.proofs.Back.{stepped, swept, swept-start, swept-step, swept-end}
 use borrow.Author.Needs.{needs}

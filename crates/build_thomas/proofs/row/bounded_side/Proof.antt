@@ -10,7 +10,7 @@ use lib.ListN.{length, take, drop}
 use lib.Ieee.{Float}
 use Rattle.rules.specs.Solve.{times, minus}
 use Rattle.build_block.specs.Columns.{transposed}
-use Rattle.rules.proofs.Lent.{part-size, part-length}
+use Rattle.law_lists.proofs.Lent.{part-size, part-length}
 use Rattle.build_block.proofs.Transposed.{rows-long, columns-long}
 use Rattle.build_segments.specs.NodeNumbers.{firstOf, lastOf}
 use Rattle.build_thomas.proofs.Sides.{bounded-is}

@@ -10,10 +10,10 @@ use lib.ListN.{length}
 use lib.Ieee.{Float}
 use Rattle.rules.specs.Build.{dy, solvedSide}
 use Rattle.rules.specs.Solve.{solve, nodeFactors}
-use Rattle.rules.proofs.Lists.{part-inside}
+use Rattle.law_lists.proofs.Lists.{part-inside}
 use Rattle.rules.proofs.Build.{length-solvedSide}
-use Rattle.rules.proofs.Cells.{next-part}
-use Rattle.rules.proofs.Parts.{Parted, none, kept, step, part-at}
+use Rattle.law_lists.proofs.Places.{next-part}
+use Rattle.law_lists.proofs.PartedList.{Parted, none, kept, step, part-at}
 use Rattle.build_segments.specs.declared.Plan.{Plan}
 use Rattle.build_segments.specs.NodeNumbers.{firstOf, lastOf}
 use Rattle.build_thomas.specs.Axis.{waypointsOf}

@@ -12,7 +12,7 @@ use Rattle.build_block.specs.Columns.{transposed}
 use Rattle.rules.specs.Tables.{A}
 use Rattle.rules.specs.Build.{boundedSide, solvedSide}
 use Rattle.build_thomas.specs.Axis.{part}
-use Rattle.rules.proofs.Lent.{part-size, part-length}
+use Rattle.law_lists.proofs.Lent.{part-size, part-length}
 use Rattle.build_block.proofs.Transposed.{columns-long, columns-are}
 use Rattle.build_segments.specs.NodeNumbers.{firstOf, lastOf}
 use Rattle.build_thomas.proofs.Sides.{past-first}

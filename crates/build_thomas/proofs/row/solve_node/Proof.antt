@@ -2,7 +2,7 @@
 use mathlib.Core.Path.{ap, _∙_}
 use Prim.Native.Nat.{_*_}
 use lib.ListN.{length}
-use Rattle.rules.proofs.Lent.{part-size, part-length}
+use Rattle.law_lists.proofs.Lent.{part-size, part-length}
 use Rattle.build_thomas.proofs.Node.{entries-part, rows-part, entries-long, rows-long, node-below}
 use borrow.Author.Needs.{needs}
 use Rattle.build_thomas.proofs.row.solve_node.Statement.{statement}

@@ -6,13 +6,13 @@ use native.Mathlib.Omega.{arith}
 use lib.ListN.{length, take}
 use lib.Seq.{take-at}
 use lib.Ieee.{Float}
-use Rattle.rules.specs.Lists.{joined}
+use Rattle.law_lists.specs.Lists.{joined}
 use Rattle.rules.specs.Build.{solvedSide}
-use Rattle.rules.proofs.Lists.{length-joined}
+use Rattle.law_lists.proofs.Lists.{length-joined}
 use Rattle.rules.proofs.Build.{length-solvedSide}
 use Rattle.build_segments.specs.NodeNumbers.{firstOf, lastOf}
 use Rattle.build_segments.proofs.Matrices.{a-room, c-room, r-room, h-room, a-lent, c-lent, r-lent, h-lent}
-use Rattle.rules.proofs.Lent.{start-length}
+use Rattle.law_lists.proofs.Lent.{start-length}
 use Rattle.build_thomas.specs.Axis.{waypointsOf}
 use Rattle.build_thomas.proofs.Sizes.{matrix-small, upper-small}
 use Rattle.build_thomas.proofs.Nodes.{axis-is}

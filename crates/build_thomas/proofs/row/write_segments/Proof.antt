@@ -7,12 +7,12 @@ use native.Mathlib.Numerals.{add-one}
 use native.Mathlib.Omega.{arith}
 use lib.ListN.{length}
 use lib.Ieee.{Float}
-use Rattle.rules.specs.Lists.{listed}
+use Rattle.law_lists.specs.Lists.{listed}
 use Rattle.rules.specs.Build.{ofAxis, segmentCoefficients}
 use Rattle.rules.proofs.Build.{length-segment}
-use Rattle.rules.proofs.Lists.{part-inside}
-use Rattle.rules.proofs.Cells.{next-part}
-use Rattle.rules.proofs.Parts.{Parted, none, kept, step, whole}
+use Rattle.law_lists.proofs.Lists.{part-inside}
+use Rattle.law_lists.proofs.Places.{next-part}
+use Rattle.law_lists.proofs.PartedList.{Parted, none, kept, step, whole}
 use Rattle.build_segments.specs.NodeNumbers.{nodePart}
 use Rattle.build_segments.proofs.Nodes.{length-part}
 use Rattle.build_thomas.specs.Axis.{segmentOf}

@@ -4,7 +4,7 @@ use mathlib.Core.Bool.{true}
 use Prim.Native.Nat.{_-_, _≤_}
 use native.Mathlib.Omega.{arith}
 use borrow.Author.Needs.{needs}
-use Rattle.rules.specs.Lists.{every}
+use Rattle.law_lists.specs.Lists.{every}
 use Rattle.master_equations.specs.Segment.{meetsAt}
 use Rattle.master_equations.proofs.Meets.{one-differs, one-more}
 use Rattle.master_equations.proofs.segment.meets.Statement.{statement}

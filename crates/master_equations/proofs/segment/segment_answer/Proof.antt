@@ -3,7 +3,7 @@ use mathlib.Core.Path.{_≡_, sym, ap, _∙_}
 use mathlib.Core.Bool.{true}
 use native.Mathlib.Omega.{arith}
 use borrow.Author.Needs.{needs}
-use Rattle.rules.specs.Lists.{all}
+use Rattle.law_lists.specs.Lists.{all}
 use Rattle.rules.specs.Master.{within, masterSays}
 use Rattle.questions.proofs.Tests.{no, yes}
 use Rattle.master_equations.specs.Segment.{segmentPart}

@@ -6,8 +6,8 @@ use lib.IntN.{pos}
 use lib.ListN.{length, drop, getD}
 use borrow.Author.Needs.{needs}
 use Rattle.rules.specs.Master.{within}
-use Rattle.rules.specs.Lists.{all}
-use Rattle.rules.proofs.Lists.{all-none-left, all-next}
+use Rattle.law_lists.specs.Lists.{all}
+use Rattle.law_lists.proofs.Lists.{all-none-left, all-next}
 use Rattle.questions.proofs.Tests.{no, yes}
 use Rattle.master_numbers.proofs.Signed.{as-read}
 use Rattle.master_numbers.proofs.range.all_within.Statement.{statement}

@@ -7,7 +7,7 @@ use lib.IntN.{pos}
 use mir.Syntax.{w64}
 use mir.Facts.{toZ-ofZ}
 use Rattle.rules.specs.Master.{coefficient}
-use Rattle.rules.proofs.Filling.{filled, length-filled, filled-none, filled-set, filled-at}
+use Rattle.law_lists.proofs.Filling.{filled, length-filled, filled-none, filled-set, filled-at}
 use Rattle.master_numbers.proofs.sums.coefficients.Statement.{statement}
 use Rattle.master_numbers.proofs.sums.coefficients.Tie as tie
 
