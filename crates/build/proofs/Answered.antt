@@ -18,8 +18,8 @@ use Rattle.rules.specs.Build.{BuildInput, validAxes, validState, inputQuestions
 use Rattle.rules.proofs.Questions.{answerAt, said-yes}
 use Rattle.rules.proofs.Build.{by-order, coefficient-count}
 use Rattle.law_lists.proofs.Filling.{joined-ext}
-use Rattle.build_segments.specs.declared.Plan.{Plan}
-use Rattle.build_segments.specs.Given.{HasNumbers, Planned}
+use Rattle.build_plan.specs.declared.Plan.{Plan}
+use Rattle.build_plan.specs.Given.{HasNumbers, Planned}
 use Rattle.build_axes.specs.AllAxes.{allAxes}
 
 has-numbers : (axes m : ℕ) (state : BoundaryState) (numbers : List Float) → T (validState axes m state numbers) → HasNumbers axes m state numbers

@@ -6,7 +6,7 @@ ghost use Prim.Native.Nat.{_≤_};
 ghost use lib.ListN.{length};
 ghost use lib.Ieee.{Float};
 ghost use Rattle.rules.specs.Build.{inputOf, acceptedRecord, refusedRecord, buildAnswer, bufferAfter};
-use build_segments::Plan;
+use build_plan::Plan;
 use rules::BuildAnswer;
 use rules::OutOfRangeMode;
 use rules::PathParam;

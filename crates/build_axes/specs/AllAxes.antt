@@ -4,10 +4,10 @@ use mathlib.Core.List.{List}
 use lib.Ieee.{Float}
 use Rattle.law_lists.specs.Lists.{joined}
 use Rattle.rules.specs.Build.{axisCoefficients}
-use Rattle.build_segments.specs.declared.Plan.{Plan}
-use Rattle.build_segments.specs.declared.tables.BlockMatrices.{BlockMatrices}
-use Rattle.build_segments.specs.Given.{Planned, endNumbers}
-use Rattle.build_segments.specs.Tables.{Matrices}
+use Rattle.build_plan.specs.declared.Plan.{Plan}
+use Rattle.build_tables.specs.declared.BlockMatrices.{BlockMatrices}
+use Rattle.build_plan.specs.Given.{Planned, endNumbers}
+use Rattle.build_tables.specs.Tables.{Matrices}
 use Rattle.build_thomas.specs.Axis.{waypointsOf, NodeFactors, NodeSolved}
 
 -- what all axes of a build share: what it is given, the tables, and the nodes' matrices

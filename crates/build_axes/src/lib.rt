@@ -6,10 +6,10 @@ ghost use Prim.Native.Nat.{_+_, _*_, _≤_};
 ghost use lib.ListN.{length};
 ghost use Rattle.rules.specs.Build.{everyPivot};
 ghost use Rattle.build_nodes.specs.NodeLists.{Room};
-ghost use Rattle.build_segments.specs.Given.{Planned};
+ghost use Rattle.build_plan.specs.Given.{Planned};
 ghost use Rattle.build_axes.specs.AllAxes.{Shared, allAxes};
-use build_segments::Plan;
-use build_segments::tables::BlockMatrices;
+use build_plan::Plan;
+use build_tables::BlockMatrices;
 
 // B14: all axes, one after the other, in the place of what the buffer held.
 fn fill_axes(
@@ -35,8 +35,8 @@ fn fill_axes(
     while axis < axes {
         let at = axis * stride;
         let mut ends = [0.0; 6];
-        build_segments::boundary::both_ends(plan, start, end, axis, &mut ends);
-        build_thomas::row::thomas_row(
+        build_plan::both_ends(plan, start, end, axis, &mut ends);
+        build_thomas::thomas_row(
             plan,
             tables,
             entries,
@@ -74,7 +74,7 @@ pub fn solve_general_thomas(
 {
     let m = plan.m;
     let n = plan.n;
-    let tables = build_segments::tables::for_order(m);
+    let tables = build_tables::for_order(m);
     let a = tables.a;
     let b = tables.b;
     let c = tables.c;

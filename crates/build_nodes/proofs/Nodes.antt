@@ -10,13 +10,13 @@ use Rattle.rules.specs.Tables.{A, B, C}
 use Rattle.rules.specs.Solve.{Factored, entry, matrix, column, factor, solve, solveMatrix, nodeMatrix, nodeFactors, solvedC}
 use Rattle.law_lists.proofs.Filling.{listed-ext, parts-at}
 use Rattle.rules.proofs.Matrices.{matrix-ext, length-matrix}
-use Rattle.build_block.specs.Columns.{transposed, HoldsA, HoldsB}
+use Rattle.build_products.specs.Columns.{transposed, HoldsA, HoldsB}
 use Rattle.build_nodes.specs.NodeLists.{nodeSolved}
 use Rattle.build_nodes.specs.Steps.{nextEntry, SolvedTo}
 use Rattle.build_factoring.proofs.Factors.{length-factor, length-rows}
 use Rattle.law_lists.proofs.PartedList.{Parted}
-use Rattle.build_block.proofs.Sums.{sumOf-ext}
-use Rattle.build_block.proofs.Transposed.{transposed-at, length-transposed}
+use Rattle.build_products.proofs.Sums.{sumOf-ext}
+use Rattle.build_products.proofs.Transposed.{transposed-at, length-transposed}
 
 module _ (m : ℕ) where
   -- by columns and by rows again

@@ -5,7 +5,7 @@ use lib.ListN.{length}
 use lib.Ieee.{Float}
 use Rattle.law_lists.specs.Lists.{joined}
 use Rattle.rules.specs.Solve.{nodeFactors, solvedC}
-use Rattle.build_block.specs.Columns.{transposed}
+use Rattle.build_products.specs.Columns.{transposed}
 
 -- of the first n inner nodes, one after the other: the factored matrices, their rows, and solved C by columns
 unfoldable pub nodeEntries : ℕ → ℕ → List Float

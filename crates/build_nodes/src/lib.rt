@@ -1,5 +1,5 @@
 // The matrices of a build's inner nodes, which its order and the node's place alone decide, factored
-// and solved with by crates/build_block. What each function does is said by the definitions of
+// and solved with by crates/build_solving. What each function does is said by the definitions of
 // crates/rules/specs/Solve.antt, for every m.
 ghost use mathlib.Core.Path.{_≡_};
 ghost use Prim.Native.Nat.{_+_, _*_, _≤_, _<_};
@@ -8,7 +8,7 @@ ghost use lib.ListN.{length, drop};
 ghost use Rattle.law_lists.specs.Lists.{listed};
 ghost use Rattle.rules.specs.Solve.{matrix, nodeMatrix, nodeFactors, nonzeroPivots};
 ghost use Rattle.rules.specs.Build.{everyPivot};
-ghost use Rattle.build_block.specs.Columns.{transposed, HoldsA, HoldsB, HoldsC};
+ghost use Rattle.build_products.specs.Columns.{transposed, HoldsA, HoldsB, HoldsC};
 ghost use Rattle.build_nodes.specs.NodeLists.{Room, nodeEntries, nodeRows, nodeSolved};
 ghost use Rattle.build_nodes.specs.Steps.{nextEntry, SolvedTo};
 
@@ -25,7 +25,7 @@ fn node_row(m: usize, r: usize, a: &[f64], b: &[f64], previous: &[f64], out: &mu
     let mut c = 0;
     while c < m {
         let at = c * m;
-        out[c] = b[r * m + c] - build_block::products::dot(m, a, r, m, &previous[at..at + m]);
+        out[c] = b[r * m + c] - build_products::dot(m, a, r, m, &previous[at..at + m]);
         c += 1;
     }
 }
@@ -56,7 +56,7 @@ fn node_entries(m: usize, i: usize, a: &[f64], b: &[f64], solved: &[f64], out: &
     ensures { λ x. ⌜ now (out .exit) ≡ nodeMatrix m i ⌝ }
 {
     if i == 0 {
-        build_block::products::copy(b, out);
+        build_products::copy(b, out);
         return;
     }
     let before = (i - 1) * (m * m);
@@ -89,7 +89,7 @@ fn factor_node(
     node_entries(m, i, a, b, solved, entries);
     let ok = build_factoring::factor(m, entries, rows);
     let at = i * (m * m);
-    build_block::solve::solve_matrix(m, entries, rows, c, &mut solved[at..at + m * m]);
+    build_solving::solve_matrix(m, entries, rows, c, &mut solved[at..at + m * m]);
     ok
 }
 

@@ -1,5 +1,3 @@
-pub mod Matrices
-pub mod Nodes
-pub mod Segments
-pub mod States
-pub mod Upper
+pub mod NodeNumbers
+pub mod SegmentCells
+pub mod UpperCoefficients

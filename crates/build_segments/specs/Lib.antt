@@ -1,3 +1,1 @@
-pub mod Given
 pub mod NodeNumbers
-pub mod Tables

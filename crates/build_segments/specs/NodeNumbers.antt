@@ -5,13 +5,7 @@ use mathlib.Core.List.{List}
 use lib.ListN.{take, drop}
 use lib.Dec.{ltb}
 use lib.Ieee.{Float}
-
--- of the boundary numbers, which are the first node's m and then the last's
-abbrev pub firstOf : ℕ → List Float → List Float
-firstOf m boundary = take m boundary
-
-abbrev pub lastOf : ℕ → List Float → List Float
-lastOf m boundary = take m (drop m boundary)
+use Rattle.build_plan.specs.Given.{firstOf, lastOf}
 
 -- the numbers of a node: of the first, of the last, and between
 unfoldable pub nodePart : ℕ → ℕ → List Float → List Float → ℕ → List Float

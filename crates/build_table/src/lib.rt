@@ -4,9 +4,9 @@ ghost use mathlib.Core.Bool.{cond};
 ghost use Prim.Native.Nat.{_+_, _*_};
 ghost use lib.ListN.{length};
 ghost use Rattle.rules.specs.Build.{everyPivot};
-ghost use Rattle.build_segments.specs.Given.{Planned};
+ghost use Rattle.build_plan.specs.Given.{Planned};
 ghost use Rattle.build_axes.specs.AllAxes.{allAxes};
-use build_segments::Plan;
+use build_plan::Plan;
 
 // F10: "Lists per node: fixed arrays for 255 nodes." A curve with fewer nodes has shorter ones, since an array is set to
 // zero before it is used; two points have no inner node.

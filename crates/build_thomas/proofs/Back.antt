@@ -20,7 +20,7 @@ use Rattle.law_lists.proofs.Lists.{below-suc, length-joined}
 use Rattle.law_lists.proofs.Filling.{lt-or-le, joined-ext, parts-at}
 use Rattle.rules.proofs.Matrices.{length-matrix}
 use Rattle.rules.proofs.Build.{length-solvedSide, length-inner}
-use Rattle.build_thomas.specs.Axis.{part, put}
+use Rattle.build_sides.specs.Node.{part, put}
 
 -- the i-th of n parts that are k long each is replaced: g is f elsewhere
 pub parts-replace : (n k i : ℕ) (f g : ℕ → List Float) (zs rest : List Float) → ((j : ℕ) → j < n → length (f j) ≡ k)

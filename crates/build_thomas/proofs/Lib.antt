@@ -1,5 +1,4 @@
+pub mod AllNodes
+pub mod AxisIs
 pub mod Back
-pub mod Node
-pub mod Nodes
-pub mod Sides
 pub mod Sizes

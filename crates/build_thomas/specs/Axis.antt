@@ -11,8 +11,8 @@ use Rattle.law_lists.specs.Lists.{listed}
 use Rattle.rules.specs.Tables.{A}
 use Rattle.rules.specs.Solve.{times, minus, nodeFactors, solvedC}
 use Rattle.rules.specs.Build.{ofAxis, dy, segmentCoefficients, boundedSide, solvedSide}
-use Rattle.build_block.specs.Columns.{transposed}
-use Rattle.build_segments.specs.declared.Plan.{Plan}
+use Rattle.build_products.specs.Columns.{transposed}
+use Rattle.build_plan.specs.declared.Plan.{Plan}
 use Rattle.build_segments.specs.NodeNumbers.{nodePart}
 
 -- the waypoints of an axis, of those of all axes
@@ -31,31 +31,10 @@ pub record NodeFactors (m n : ℕ) (entries : List Float) (rows : List ℕ) : Ty
   pub rows-at : (i : ℕ) → i < n → take m (drop (i * m) rows) ≡ nodeFactors m i .rows
   pub rows-length : n * m ≤ length rows
 
--- those of one node
-pub record NodeAt (m i : ℕ) (entries : List Float) (rows : List ℕ) : Type 0 where
-  pub entries-is : take (m * m) (drop (i * (m * m)) entries) ≡ nodeFactors m i .entries
-  pub entries-inside : i * (m * m) + m * m ≤ length entries
-  pub rows-is : take m (drop (i * m) rows) ≡ nodeFactors m i .rows
-  pub rows-inside : i * m + m ≤ length rows
-
 -- and solved C by columns
 pub record NodeSolved (m n : ℕ) (solved : List Float) : Type 0 where
   pub solved-at : (i : ℕ) → i < n → take (m * m) (drop (i * (m * m)) solved) ≡ transposed m (solvedC m i)
   pub solved-length : n * (m * m) ≤ length solved
-
--- the i-th m numbers of a list
-abbrev pub part : ℕ → List Float → ℕ → List Float
-part m xs i = take m (drop (i * m) xs)
-
--- a list with the i-th m numbers replaced, as it comes back where that part was lent
-abbrev pub put : ℕ → ℕ → List Float → List Float → List Float
-put m i ys xs = take (i * m) xs ++ (ys ++ drop (i * m + m - i * m) (drop (i * m) xs))
-
--- R8: what is solved at an inner node
-abbrev pub fullSide : ℕ → ℕ → List Float → List Float → List Float → ℕ → List Float
-fullSide m n w start end i =
-    let side = boundedSide m n w start end i in
-    cond (ltb 0 i) (minus m side (times m (A m) (solvedSide m n w start end (i - 1)))) side
 
 -- segment i's coefficients, with its nodes' numbers as they are kept
 abbrev pub segmentOf : ℕ → ℕ → List Float → List Float → List Float → ℕ → List Float

@@ -8,7 +8,7 @@ use Rattle.build_nodes.specs.NodeLists.{nodeSolved}
 use Rattle.build_factoring.proofs.Factors.{rows-below}
 use Rattle.build_nodes.proofs.Nodes.{solved-node, solved-parts}
 use Rattle.law_lists.proofs.PartedList.{step}
-use Rattle.build_block.proofs.Transposed.{columns-long}
+use Rattle.build_products.proofs.Transposed.{columns-long}
 use Rattle.build_nodes.proofs.factor_node.Statement.{statement}
 use Rattle.build_nodes.proofs.factor_node.Tie as tie
 

@@ -9,7 +9,7 @@ use borrow.Author.Needs.{needs}
 use Rattle.law_lists.specs.Lists.{every}
 use Rattle.rules.specs.Solve.{nonzeroPivots, nodeFactors, solvedC}
 use Rattle.rules.specs.Build.{everyPivot}
-use Rattle.build_block.specs.Columns.{transposed}
+use Rattle.build_products.specs.Columns.{transposed}
 use Rattle.build_nodes.specs.NodeLists.{nodeEntries, nodeRows, nodeSolved}
 use Rattle.law_lists.proofs.Lists.{part-inside, every-more}
 use Rattle.law_lists.proofs.Places.{next-part}

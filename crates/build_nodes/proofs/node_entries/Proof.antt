@@ -7,7 +7,7 @@ use borrow.Author.Needs.{needs}
 use lib.ListN.{length}
 use Rattle.law_lists.proofs.Places.{next-part}
 use Rattle.build_nodes.proofs.Nodes.{first-matrix, node-after}
-use Rattle.build_block.proofs.Transposed.{rows-long, columns-long}
+use Rattle.build_products.proofs.Transposed.{rows-long, columns-long}
 use Rattle.build_nodes.proofs.node_entries.Statement.{statement}
 use Rattle.build_nodes.proofs.node_entries.Tie as tie
 

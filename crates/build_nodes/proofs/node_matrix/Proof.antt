@@ -6,7 +6,7 @@ use borrow.Author.Needs.{needs}
 use Rattle.law_lists.specs.Lists.{listed}
 use Rattle.rules.specs.Solve.{matrix}
 use Rattle.law_lists.proofs.Lists.{length-listed, part-inside}
-use Rattle.build_block.specs.Columns.{transposed}
+use Rattle.build_products.specs.Columns.{transposed}
 use Rattle.build_nodes.specs.Steps.{nextEntry}
 use Rattle.law_lists.proofs.PartedList.{Parted, none, kept, step, whole}
 use Rattle.law_lists.proofs.Places.{next-part}

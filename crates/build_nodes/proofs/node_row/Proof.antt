@@ -3,13 +3,13 @@
 use Prim.Native.Nat.{_+_, _*_, _-_, _≤_, _<_}
 use native.Mathlib.Omega.{arith}
 use borrow.Author.Needs.{needs}
-use Rattle.build_block.specs.Columns.{transposed}
+use Rattle.build_products.specs.Columns.{transposed}
 use Rattle.build_nodes.specs.Steps.{nextEntry}
 use Rattle.law_lists.proofs.Lists.{part-inside}
 use Rattle.rules.proofs.Cells.{read}
 use Rattle.law_lists.proofs.Places.{cell-inside}
 use Rattle.rules.proofs.FilledList.{Filled, none, kept, step, whole}
-use Rattle.build_block.proofs.Transposed.{row-times-column}
+use Rattle.build_products.proofs.Transposed.{row-times-column}
 use Rattle.build_nodes.proofs.node_row.Statement.{statement}
 use Rattle.build_nodes.proofs.node_row.Tie as tie
 

@@ -1,4 +1,0 @@
-pub mod Columns
-pub mod Steps
-pub mod Sums
-pub mod Transposed

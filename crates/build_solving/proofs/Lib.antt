@@ -1,0 +1,2 @@
+pub mod SolvedColumns
+pub mod Steps
