@@ -109,7 +109,7 @@ impl Call {
             305 => PathError::OutOfRangeS { s_min, s_max, value: s },
             307 => PathError::SingularSystem,
             308 => PathError::UnsupportedDerivativeOrder { requested: level },
-            // proved: there is no other (NumbersAreListed, crates/capi/specs/Export.antt)
+            // proved: there is no other (NumbersAreListed, crates/capi_numbers/specs/Meaning.antt)
             _ => panic!("{} is no refusal", number),
         }
     }

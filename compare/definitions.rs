@@ -199,7 +199,7 @@ fn fused_steps(random: &mut Random, trial: usize) -> String {
 fn master_check(random: &mut Random, trial: usize) -> String {
     let (order, segments) = (random.pick(&[3, 5, 7]), 1 + random.below(4) as usize);
     let mut set = Set::continued(random, order, segments, 9);
-    let mut lists = set.lists_mut();
+    let lists = set.lists_mut();
     let which = random.below(4) as usize;
     let place = random.below(lists[which].len() as u64) as usize;
     let cell = &mut lists[which][place];

@@ -28,7 +28,7 @@ extern "C" {
 
 /* What spline_build and spline_query answer. spline_check_master has the same refusal numbers. Which of them each
    function can answer stands at the function, and that there are no others is proved (NumbersAreListed,
-   crates/capi/specs/Export.antt). */
+   crates/capi_numbers/specs/Meaning.antt). */
 enum {
     /* Served. */
     SPLINE_OK = 0,
