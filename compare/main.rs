@@ -6,7 +6,7 @@
 //!   fused list        the list that crates/fused_vectors replays in the gate
 //!   queries vectors   the list that crates/query_vectors replays in the gate
 //!   masters vectors   the list that crates/master_vectors replays in the gate
-//!   builds pieces     what crates/build_pieces expects, by the Rust alone
+//!   builds trials     the last trials of crates/test_build
 
 use input::{diag, path};
 
@@ -26,6 +26,7 @@ mod set;
 // The text of src/path/spline.rs, unchanged, with functions after it that hand out what is private there.
 #[allow(dead_code)]
 mod spline;
+mod trials;
 
 fn compare(percent: u64) {
     fused::compare(800_000 * percent);
@@ -49,7 +50,7 @@ fn main() {
         ["fused", "list"] => fused::list(),
         ["queries", "vectors"] => queries::vectors(5_040),
         ["masters", "vectors"] => masters::vectors(),
-        ["builds", "pieces"] => builds::pieces(),
-        _ => panic!("compare PERCENT, time, fused list, queries vectors, masters vectors or builds pieces"),
+        ["builds", "trials"] => builds::trials(),
+        _ => panic!("compare PERCENT, time, fused list, queries vectors, masters vectors or builds trials"),
     }
 }

@@ -30,14 +30,3 @@ pub fn changed(cells: &[f64]) -> u64 {
     }
     n
 }
-
-// How many cells are not the number wanted there. The two zeros are alike, and a NaN is never wanted.
-pub fn unlike(cells: &[f64], wanted: &[f64]) -> u64 {
-    let mut n = 0u64;
-    for i in 0..least(cells.len(), wanted.len()) {
-        if cells[i] != wanted[i] {
-            n = std::num::wrapping_add_u64(n, 1);
-        }
-    }
-    n
-}

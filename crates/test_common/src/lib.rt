@@ -3,9 +3,10 @@
 // and the count.
 pub mod bits;
 pub mod buffer;
-pub mod builds;
 pub mod digits;
 pub mod print;
+pub mod read;
+pub mod seen;
 
 use rules::OutOfRangeMode;
 

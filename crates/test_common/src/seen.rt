@@ -1,0 +1,115 @@
+// What was seen: expected answers are read and compared with what a call gave, and counted.
+use crate::bits;
+use crate::print;
+use crate::read;
+use crate::read::Name;
+
+// The calls there were, the numbers that were compared, and those that were not as expected. (Sums that wrap: nothing is
+// to be proved of them, and they never get that far.)
+pub struct Seen {
+    pub calls: u64,
+    pub numbers: u64,
+    pub unlike: u64,
+}
+
+pub fn nothing() -> Seen {
+    Seen {
+        calls: 0,
+        numbers: 0,
+        unlike: 0,
+    }
+}
+
+fn more(n: u64, is: bool) -> u64 {
+    if is {
+        return std::num::wrapping_add_u64(n, 1);
+    }
+    n
+}
+
+fn compared(seen: Seen, counts: bool, is_unlike: bool) -> Seen {
+    Seen {
+        calls: seen.calls,
+        numbers: more(seen.numbers, counts),
+        unlike: more(seen.unlike, is_unlike),
+    }
+}
+
+// A whole number beside the next field.
+pub fn whole(seen: Seen, n: usize) -> Seen {
+    compared(seen, true, n != read::count())
+}
+
+// A float beside the next field.
+pub fn float(seen: Seen, x: f64) -> Seen {
+    compared(seen, true, !bits::same(x, read::float()))
+}
+
+// What the cells of a buffer hold before a call: no two are alike, and none is likely to be written.
+const FIRST: f64 = -8765432.25;
+
+pub fn fill(cells: &mut [f64]) {
+    let mut x = FIRST;
+    for i in 0..cells.len() {
+        cells[i] = x;
+        x = x + 1.0;
+    }
+}
+
+// The first eight cells were not lent.
+fn is_written(i: usize, written: usize) -> bool {
+    if i < 8 {
+        return false;
+    }
+    i - 8 < written
+}
+
+fn wanted(is_written: bool, before: f64) -> f64 {
+    if is_written {
+        return read::cell();
+    }
+    before
+}
+
+// The array that a buffer is lent of from the ninth cell on, beside the next list of so many floats. All other cells have
+// to be as they were.
+pub fn cells(seen: Seen, cells: &[f64], written: usize) -> Seen {
+    let mut seen = seen;
+    let mut before = FIRST;
+    for i in 0..cells.len() {
+        let is_written = is_written(i, written);
+        let unlike = !bits::same(cells[i], wanted(is_written, before));
+        seen = compared(seen, is_written, unlike);
+        before = before + 1.0;
+    }
+    seen
+}
+
+// A call more. Its name is printed where something was unlike.
+pub fn called(before: Seen, seen: Seen, name: Name) -> Seen {
+    if seen.unlike != before.unlike {
+        let text = name.text;
+        print::text(b"not as expected: ");
+        print::text(&text);
+    }
+    Seen {
+        calls: more(seen.calls, true),
+        numbers: seen.numbers,
+        unlike: seen.unlike,
+    }
+}
+
+// The input ends where a name would start.
+pub fn ended(seen: Seen, name: Name) -> Seen {
+    compared(seen, false, name.length != 0)
+}
+
+// A program's last line.
+pub fn report(seen: Seen) {
+    print::decimal(seen.calls);
+    print::text(b" calls, ");
+    print::decimal(seen.numbers);
+    print::text(b" numbers, ");
+    print::decimal(seen.unlike);
+    print::text(b" unlike\n");
+}
