@@ -4,7 +4,7 @@
 //!   compare PERCENT   every comparison, a row each; 100 for the numbers of calls that README tells of
 //!   time              every timing, a row each
 //!   fused list        the list that crates/fused_vectors replays in the gate
-//!   queries vectors   the list that crates/query_vectors replays in the gate
+//!   queries trials    the last trials of crates/test_query
 //!   masters vectors   the list that crates/master_vectors replays in the gate
 //!   builds trials     the last trials of crates/test_build
 
@@ -48,9 +48,9 @@ fn main() {
         ["compare", percent] => compare(percent.parse().expect("a whole number")),
         ["time"] => time(),
         ["fused", "list"] => fused::list(),
-        ["queries", "vectors"] => queries::vectors(5_040),
+        ["queries", "trials"] => queries::trials(5_040),
         ["masters", "vectors"] => masters::vectors(),
         ["builds", "trials"] => builds::trials(),
-        _ => panic!("compare PERCENT, time, fused list, queries vectors, masters vectors or builds trials"),
+        _ => panic!("compare PERCENT, time, fused list, queries trials, masters vectors or builds trials"),
     }
 }

@@ -113,7 +113,7 @@ fn mode_number(mode: OutOfRangeMode) -> usize {
 fn judged(seen: Seen, answer: BuildAnswer, buffer: &[f64; 16416]) -> Seen {
     let path = answer.path;
     let mode = path.mode;
-    let seen = seen::whole(seen, answer.number as usize);
+    let seen = seen::answered(seen, answer.number, read::count());
     let seen = seen::whole(seen, path.order);
     let seen = seen::whole(seen, path.segments);
     let seen = seen::whole(seen, path.axes);
@@ -143,7 +143,7 @@ fn next(seen: Seen, name: Name) -> Seen {
     if name.is_remark {
         return seen;
     }
-    seen::called(seen, call(seen), name)
+    seen::named(seen, call(seen), name)
 }
 
 // A proved loop has to end, and nothing says that the input does. So it ends at a number of lines that the input does

@@ -1,7 +1,8 @@
 // Calls and expected answers, read from standard input as pieces of fixed width. A line of 67 characters is a call's
 // name, or a remark, which starts with '#'. A line of 33 characters is a field: what it is, in at most 13, and a number
 // at the right end: a whole one in decimal, or a float by the 16 hexadecimal digits of its bits. A list of floats has
-// 16 such digits for each, and behind it one character more, a space or a line's end.
+// 16 such digits for each, and behind it one character more, a space or a line's end; a small number has 3 decimal
+// digits, and one character more.
 ghost use Prim.Native.Nat.{_≤_};
 use crate::bits;
 use libc::STDIN_FILENO;
@@ -75,6 +76,12 @@ pub fn cell() -> f64 {
     let mut line = [0u8; 17];
     io::read_full(STDIN_FILENO, &mut line);
     bits::float(digits(&line, 0, 16, false))
+}
+
+pub fn small() -> usize {
+    let mut line = [0u8; 4];
+    io::read_full(STDIN_FILENO, &mut line);
+    digits(&line, 0, 3, true) as usize
 }
 
 // So many floats of a list, put at the start of another.

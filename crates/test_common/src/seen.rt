@@ -35,6 +35,16 @@ fn compared(seen: Seen, counts: bool, is_unlike: bool) -> Seen {
     }
 }
 
+// A call more, and the number that it answered.
+pub fn answered(seen: Seen, number: u32, expected: usize) -> Seen {
+    let seen = compared(seen, true, number as usize != expected);
+    Seen {
+        calls: more(seen.calls, true),
+        numbers: seen.numbers,
+        unlike: seen.unlike,
+    }
+}
+
 // A whole number beside the next field.
 pub fn whole(seen: Seen, n: usize) -> Seen {
     compared(seen, true, n != read::count())
@@ -85,18 +95,14 @@ pub fn cells(seen: Seen, cells: &[f64], written: usize) -> Seen {
     seen
 }
 
-// A call more. Its name is printed where something was unlike.
-pub fn called(before: Seen, seen: Seen, name: Name) -> Seen {
+// Prints a name if something was unlike under it.
+pub fn named(before: Seen, seen: Seen, name: Name) -> Seen {
     if seen.unlike != before.unlike {
         let text = name.text;
         print::text(b"not as expected: ");
         print::text(&text);
     }
-    Seen {
-        calls: more(seen.calls, true),
-        numbers: seen.numbers,
-        unlike: seen.unlike,
-    }
+    seen
 }
 
 // The input ends where a name would start.

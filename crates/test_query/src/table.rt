@@ -3,6 +3,7 @@
 // a coefficient.
 ghost use Prim.Native.Nat.{_<_};
 use test_common::bits;
+use test_common::read;
 
 fn next(x: u64) -> u64
     ensures { λ r. ⌜ r < 2147483648 ⌝ }
@@ -10,31 +11,20 @@ fn next(x: u64) -> u64
     x % 0x7fff_ffff * 48271 % 0x7fff_ffff
 }
 
+// Kind 0 has magnitudes of 1/16 to 16, kind 1 of 2^-32 to 2^31, and kind 2 any exponent.
+fn exponent(kind: usize, digits: u64) -> u64 {
+    match kind {
+        1 => 991 + digits / 0x100_0000_0000_0000 % 64,
+        2 => digits / 0x4_0000_0000_0000 % 2047,
+        _ => 1019 + digits / 2 % 8,
+    }
+}
+
 // The last digit is the sign, and some above it are the fraction.
-fn of_exponent(digits: u64, exponent: u64) -> f64 {
+fn ordinary(kind: usize, digits: u64) -> f64 {
     let sign = digits % 2 * 0x8000_0000_0000_0000;
     let fraction = digits / 16 % 0x10_0000_0000_0000;
-    bits::float(sign + exponent % 0x800 * 0x10_0000_0000_0000 + fraction)
-}
-
-// Magnitudes of 1/16 to 16.
-fn ordinary(digits: u64) -> f64 {
-    of_exponent(digits, 1019 + digits / 2 % 8)
-}
-
-// Magnitudes of 2^-32 to 2^31.
-fn spread(digits: u64) -> f64 {
-    of_exponent(digits, 991 + digits / 0x100_0000_0000_0000 % 64)
-}
-
-// Any exponent.
-fn wild(digits: u64) -> f64 {
-    of_exponent(digits, digits / 0x4_0000_0000_0000 % 2047)
-}
-
-// Whole numbers within 20.
-fn whole(digits: u64) -> f64 {
-    std::num::nearest_u64_to_f64(digits % 41) - 20.0
+    bits::float(sign + exponent(kind, digits) % 0x800 * 0x10_0000_0000_0000 + fraction)
 }
 
 // NaNs, infinities, zeros, the greatest and the least, among ordinary ones.
@@ -47,25 +37,25 @@ fn special(digits: u64) -> f64 {
         4 => -0.0,
         5 => 1.7976931348623157e308,
         6 => 5e-324,
-        _ => ordinary(digits),
+        _ => ordinary(0, digits),
     }
 }
 
-fn coefficient(kind: u64, digits: u64) -> f64 {
+// Kind 3 has whole numbers within 20. Of kind 5 they stand in the input.
+fn coefficient(kind: usize, digits: u64) -> f64 {
     match kind {
-        0 => ordinary(digits),
-        1 => spread(digits),
-        2 => wild(digits),
-        3 => whole(digits),
-        _ => special(digits),
+        3 => std::num::nearest_u64_to_f64(digits % 41) - 20.0,
+        4 => special(digits),
+        5 => read::cell(),
+        _ => ordinary(kind, digits),
     }
 }
 
-pub fn fill(cells: &mut [f64], kind: u64, seed: u64) {
-    let mut x = seed;
-    for i in 0..cells.len() {
+pub fn fill(table: &mut [f64], n: usize, kind: usize, seed: usize) {
+    let mut x = seed as u64;
+    for i in 0..read::least(n, table.len()) {
         let high = next(x);
         x = next(high);
-        cells[i] = coefficient(kind, high * 0x8000_0000 + x);
+        table[i] = coefficient(kind, high * 0x8000_0000 + x);
     }
 }

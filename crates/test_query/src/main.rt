@@ -1,0 +1,177 @@
+// Makes the queries that standard input has, and compares each answer with the one that stands behind its call: number,
+// and every cell of the four buffers and of those beside them. The first lines of the input say how a call is
+// written. Prints the names of paths of which a query was answered otherwise, and how many paths, queries and
+// numbers there were.
+mod table;
+
+use rules::OutOfRangeMode;
+use rules::PathParam;
+use rules::PathRecord;
+use test_common::read;
+use test_common::read::Name;
+use test_common::seen;
+use test_common::seen::Seen;
+
+fn next_mode() -> OutOfRangeMode {
+    if read::count() == 1 {
+        return OutOfRangeMode::Clamp;
+    }
+    OutOfRangeMode::Error
+}
+
+fn next_path() -> PathRecord {
+    PathRecord {
+        order: read::count(),
+        segments: read::count(),
+        axes: read::count(),
+        s_min: PathParam(read::float()),
+        s_max: PathParam(read::float()),
+        inv_ds: read::float(),
+        mode: next_mode(),
+    }
+}
+
+// What a query is asked, and by which entry point: 0 eval_at, 1 eval_path. Behind it how many cells each buffer has.
+struct Query {
+    entry: usize,
+    s: PathParam,
+    level: u8,
+    q: usize,
+    dq: usize,
+    ddq: usize,
+    dddq: usize,
+}
+
+// There is room for 16 cells. What is more is cut off.
+fn next_query() -> Query {
+    Query {
+        s: PathParam(read::cell()),
+        entry: read::small(),
+        level: (read::small() % 256) as u8,
+        q: read::least(read::small(), 16),
+        dq: read::least(read::small(), 16),
+        ddq: read::least(read::small(), 16),
+        dddq: read::least(read::small(), 16),
+    }
+}
+
+// (A function of its own, so that what a query ensures stays out of its callers' proofs.)
+fn asked(
+    entry: usize,
+    path: PathRecord,
+    coeffs: &[f64],
+    s: PathParam,
+    level: u8,
+    q: &mut [f64],
+    dq: &mut [f64],
+    ddq: &mut [f64],
+    dddq: &mut [f64],
+) -> u32 {
+    if entry == 1 {
+        return query_path::eval_path(path, coeffs, s, level, q, dq, ddq, dddq);
+    }
+    query::eval_at(path, coeffs, s, level, q, dq, ddq, dddq)
+}
+
+// How many cells of each buffer were to be written.
+struct Written {
+    q: usize,
+    dq: usize,
+    ddq: usize,
+    dddq: usize,
+}
+
+fn next_written() -> Written {
+    Written {
+        q: read::small(),
+        dq: read::small(),
+        ddq: read::small(),
+        dddq: read::small(),
+    }
+}
+
+// (After a part of an array was lent, only a parameter's type tells the prover its length again.)
+fn judged(
+    seen: Seen,
+    number: u32,
+    q: &[f64; 32],
+    dq: &[f64; 32],
+    ddq: &[f64; 32],
+    dddq: &[f64; 32],
+) -> Seen {
+    let seen = seen::answered(seen, number, read::small());
+    let n = next_written();
+    let seen = seen::cells(seen, q, n.q);
+    let seen = seen::cells(seen, dq, n.dq);
+    let seen = seen::cells(seen, ddq, n.ddq);
+    seen::cells(seen, dddq, n.dddq)
+}
+
+fn call(seen: Seen, path: PathRecord, coeffs: &[f64]) -> Seen {
+    let c = next_query();
+    let mut q = [0.0; 32];
+    let mut dq = [0.0; 32];
+    let mut ddq = [0.0; 32];
+    let mut dddq = [0.0; 32];
+    seen::fill(&mut q);
+    seen::fill(&mut dq);
+    seen::fill(&mut ddq);
+    seen::fill(&mut dddq);
+    let s = c.s;
+    let number = asked(
+        c.entry,
+        path,
+        coeffs,
+        s,
+        c.level,
+        &mut q[8..8 + read::least(c.q, 16)],
+        &mut dq[8..8 + read::least(c.dq, 16)],
+        &mut ddq[8..8 + read::least(c.ddq, 16)],
+        &mut dddq[8..8 + read::least(c.dddq, 16)],
+    );
+    judged(seen, number, &q, &dq, &ddq, &dddq)
+}
+
+fn calls(seen: Seen, path: PathRecord, coeffs: &[f64], n: usize) -> Seen {
+    let mut seen = seen;
+    for _ in 0..n {
+        seen = call(seen, path, coeffs);
+    }
+    seen
+}
+
+// There is room for 16400 coefficients. What is more is cut off.
+fn along(seen: Seen) -> Seen {
+    let path = next_path();
+    let n = read::least(read::count(), 16400);
+    let kind = read::count();
+    let seed = read::count();
+    let mut table = [0.0; 16400];
+    table::fill(&mut table, n, kind, seed);
+    calls(seen, path, &table[0..n], read::count())
+}
+
+fn next(seen: Seen, name: Name) -> Seen {
+    if name.is_remark {
+        return seen;
+    }
+    seen::named(seen, along(seen), name)
+}
+
+// A proved loop has to end, and nothing says that the input does. So it ends at a number of lines that the input does
+// not reach.
+fn replay() -> Seen {
+    let mut seen = seen::nothing();
+    for _ in 0..100000u32 {
+        let name = read::next_name();
+        if name.length != 68 {
+            return seen::ended(seen, name);
+        }
+        seen = next(seen, name);
+    }
+    seen
+}
+
+fn main() {
+    seen::report(replay());
+}
