@@ -3,9 +3,9 @@
 //!
 //!   compare PERCENT   every comparison, a row each; 100 for the numbers of calls that README tells of
 //!   time              every timing, a row each
-//!   fused list        the list that crates/fused_vectors replays in the gate
+//!   fused trials      the trials of crates/test_fused
 //!   queries trials    the last trials of crates/test_query
-//!   masters vectors   the list that crates/master_vectors replays in the gate
+//!   masters trials    the last trials of crates/test_master
 //!   builds trials     the last trials of crates/test_build
 
 use input::{diag, path};
@@ -47,10 +47,10 @@ fn main() {
     match words.iter().map(String::as_str).collect::<Vec<_>>().as_slice() {
         ["compare", percent] => compare(percent.parse().expect("a whole number")),
         ["time"] => time(),
-        ["fused", "list"] => fused::list(),
+        ["fused", "trials"] => fused::trials(),
         ["queries", "trials"] => queries::trials(5_040),
-        ["masters", "vectors"] => masters::vectors(),
+        ["masters", "trials"] => masters::trials(),
         ["builds", "trials"] => builds::trials(),
-        _ => panic!("compare PERCENT, time, fused list, queries trials, masters vectors or builds trials"),
+        _ => panic!("compare PERCENT, time, or trials of fused, builds, queries or masters"),
     }
 }

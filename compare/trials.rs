@@ -36,3 +36,10 @@ pub fn floats(list: &[f64], on_a_line: usize) {
         println!("{}", line.iter().map(|&x| bits(x)).collect::<Vec<_>>().join(" "));
     }
 }
+
+/// A list of integers, of 20 characters each, so many on a line.
+pub fn integers(list: &[i64], on_a_line: usize) {
+    for line in list.chunks(on_a_line.max(1)) {
+        println!("{}", line.iter().map(|z| format!("{z:>20}")).collect::<Vec<_>>().join(" "));
+    }
+}

@@ -11,13 +11,6 @@ use test_common::read::Name;
 use test_common::seen;
 use test_common::seen::Seen;
 
-fn next_mode() -> OutOfRangeMode {
-    if read::count() == 1 {
-        return OutOfRangeMode::Clamp;
-    }
-    OutOfRangeMode::Error
-}
-
 // Kinds: 0 none, 1 given, 2 given per unit of s.
 fn next_state() -> BoundaryState {
     let kind = read::count();
@@ -38,7 +31,7 @@ fn next_config() -> SplineConfig {
         order: read::count(),
         s_min: PathParam(read::float()),
         s_max: PathParam(read::float()),
-        out_of_range_mode: next_mode(),
+        out_of_range_mode: read::mode(),
         start_state: next_state(),
         end_state: next_state(),
     }

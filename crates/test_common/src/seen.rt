@@ -1,8 +1,8 @@
 // What was seen: expected answers are read and compared with what a call gave, and counted.
 use crate::bits;
-use crate::print;
 use crate::read;
 use crate::read::Name;
+use libc::STDOUT_FILENO;
 
 // The calls there were, the numbers that were compared, and those that were not as expected. (Sums that wrap: nothing is
 // to be proved of them, and they never get that far.)
@@ -35,14 +35,23 @@ fn compared(seen: Seen, counts: bool, is_unlike: bool) -> Seen {
     }
 }
 
-// A call more, and the number that it answered.
-pub fn answered(seen: Seen, number: u32, expected: usize) -> Seen {
-    let seen = compared(seen, true, number as usize != expected);
+// A call more, and its first number.
+fn called(seen: Seen, is_unlike: bool) -> Seen {
     Seen {
         calls: more(seen.calls, true),
-        numbers: seen.numbers,
-        unlike: seen.unlike,
+        numbers: more(seen.numbers, true),
+        unlike: more(seen.unlike, is_unlike),
     }
+}
+
+// A call more, and the number that it answered.
+pub fn answered(seen: Seen, number: u32, expected: usize) -> Seen {
+    called(seen, number as usize != expected)
+}
+
+// A call more, and the float that it answered, beside the next of a list.
+pub fn computed(seen: Seen, x: f64) -> Seen {
+    called(seen, !bits::same(x, read::cell()))
 }
 
 // A whole number beside the next field.
@@ -99,8 +108,8 @@ pub fn cells(seen: Seen, cells: &[f64], written: usize) -> Seen {
 pub fn named(before: Seen, seen: Seen, name: Name) -> Seen {
     if seen.unlike != before.unlike {
         let text = name.text;
-        print::text(b"not as expected: ");
-        print::text(&text);
+        io::write_all(STDOUT_FILENO, b"not as expected: ");
+        io::write_all(STDOUT_FILENO, &text);
     }
     seen
 }
@@ -112,10 +121,10 @@ pub fn ended(seen: Seen, name: Name) -> Seen {
 
 // A program's last line.
 pub fn report(seen: Seen) {
-    print::decimal(seen.calls);
-    print::text(b" calls, ");
-    print::decimal(seen.numbers);
-    print::text(b" numbers, ");
-    print::decimal(seen.unlike);
-    print::text(b" unlike\n");
+    io::print_decimal(STDOUT_FILENO, seen.calls);
+    io::write_all(STDOUT_FILENO, b" calls, ");
+    io::print_decimal(STDOUT_FILENO, seen.numbers);
+    io::write_all(STDOUT_FILENO, b" numbers, ");
+    io::print_decimal(STDOUT_FILENO, seen.unlike);
+    io::write_all(STDOUT_FILENO, b" unlike\n");
 }

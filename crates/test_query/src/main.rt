@@ -4,20 +4,12 @@
 // numbers there were.
 mod table;
 
-use rules::OutOfRangeMode;
 use rules::PathParam;
 use rules::PathRecord;
 use test_common::read;
 use test_common::read::Name;
 use test_common::seen;
 use test_common::seen::Seen;
-
-fn next_mode() -> OutOfRangeMode {
-    if read::count() == 1 {
-        return OutOfRangeMode::Clamp;
-    }
-    OutOfRangeMode::Error
-}
 
 fn next_path() -> PathRecord {
     PathRecord {
@@ -27,7 +19,7 @@ fn next_path() -> PathRecord {
         s_min: PathParam(read::float()),
         s_max: PathParam(read::float()),
         inv_ds: read::float(),
-        mode: next_mode(),
+        mode: read::mode(),
     }
 }
 
