@@ -2,6 +2,9 @@
 // and every cell of the four buffers and of those beside them. The first lines of the input say how a call is
 // written. Prints the names of paths of which a query was answered otherwise, and how many paths, queries and
 // numbers there were.
+ghost use mathlib.Core.Path.{_≡_};
+ghost use lib.ListN.{length};
+
 mod table;
 
 use rules::PathParam;
@@ -34,16 +37,15 @@ struct Query {
     dddq: usize,
 }
 
-// There is room for 16 cells. What is more is cut off.
 fn next_query() -> Query {
     Query {
         s: PathParam(read::cell()),
         entry: read::small(),
         level: (read::small() % 256) as u8,
-        q: read::least(read::small(), 16),
-        dq: read::least(read::small(), 16),
-        ddq: read::least(read::small(), 16),
-        dddq: read::least(read::small(), 16),
+        q: read::small(),
+        dq: read::small(),
+        ddq: read::small(),
+        dddq: read::small(),
     }
 }
 
@@ -99,16 +101,21 @@ fn judged(
     seen::cells(seen, dddq, n.dddq)
 }
 
+fn filled() -> [f64; 32]
+    ensures { λ r. ⌜ 32 ≡ length r ⌝ }
+{
+    let mut cells = [0.0; 32];
+    seen::fill(&mut cells);
+    cells
+}
+
+// There is room for 16 cells in each buffer. What is more is cut off.
 fn call(seen: Seen, path: PathRecord, coeffs: &[f64]) -> Seen {
     let c = next_query();
-    let mut q = [0.0; 32];
-    let mut dq = [0.0; 32];
-    let mut ddq = [0.0; 32];
-    let mut dddq = [0.0; 32];
-    seen::fill(&mut q);
-    seen::fill(&mut dq);
-    seen::fill(&mut ddq);
-    seen::fill(&mut dddq);
+    let mut q = filled();
+    let mut dq = q;
+    let mut ddq = q;
+    let mut dddq = q;
     let s = c.s;
     let number = asked(
         c.entry,
