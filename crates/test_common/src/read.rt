@@ -110,6 +110,7 @@ pub fn cell() -> f64 {
     bits::float(digits(&line, 0, 16, false).magnitude)
 }
 
+// A small number.
 pub fn small() -> usize {
     let mut line = [0u8; 4];
     io::read_full(STDIN_FILENO, &mut line);

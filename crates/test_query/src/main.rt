@@ -1,7 +1,6 @@
 // Makes the queries that standard input has, and compares each answer with the one that stands behind its call: number,
 // and every cell of the four buffers and of those beside them. The first lines of the input say how a call is
-// written. Prints the names of paths of which a query was answered otherwise, and how many paths, queries and
-// numbers there were.
+// written. Prints the names of paths of which a query was answered otherwise, and how many queries and numbers there were.
 ghost use mathlib.Core.Path.{_≡_};
 ghost use lib.ListN.{length};
 
