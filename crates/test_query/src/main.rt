@@ -25,15 +25,21 @@ fn next_path() -> PathRecord {
     }
 }
 
-// What a query is asked, and by which entry point: 0 eval_at, 1 eval_path. Behind it how many cells each buffer has.
+// What a query is asked, by which entry point, 0 eval_at and 1 eval_path, how many cells each buffer has, and what is to
+// come out: the number, and how many cells of each buffer are written.
 struct Query {
-    entry: usize,
     s: PathParam,
+    entry: usize,
     level: u8,
     q: usize,
     dq: usize,
     ddq: usize,
     dddq: usize,
+    number: usize,
+    q_written: usize,
+    dq_written: usize,
+    ddq_written: usize,
+    dddq_written: usize,
 }
 
 fn next_query() -> Query {
@@ -45,6 +51,11 @@ fn next_query() -> Query {
         dq: read::small(),
         ddq: read::small(),
         dddq: read::small(),
+        number: read::small(),
+        q_written: read::small(),
+        dq_written: read::small(),
+        ddq_written: read::small(),
+        dddq_written: read::small(),
     }
 }
 
@@ -66,38 +77,21 @@ fn asked(
     query::eval_at(path, coeffs, s, level, q, dq, ddq, dddq)
 }
 
-// How many cells of each buffer were to be written.
-struct Written {
-    q: usize,
-    dq: usize,
-    ddq: usize,
-    dddq: usize,
-}
-
-fn next_written() -> Written {
-    Written {
-        q: read::small(),
-        dq: read::small(),
-        ddq: read::small(),
-        dddq: read::small(),
-    }
-}
-
 // (After a part of an array was lent, only a parameter's type tells the prover its length again.)
 fn judged(
     seen: Seen,
+    c: Query,
     number: u32,
     q: &[f64; 32],
     dq: &[f64; 32],
     ddq: &[f64; 32],
     dddq: &[f64; 32],
 ) -> Seen {
-    let seen = seen::answered(seen, number, read::small());
-    let n = next_written();
-    let seen = seen::cells(seen, q, n.q);
-    let seen = seen::cells(seen, dq, n.dq);
-    let seen = seen::cells(seen, ddq, n.ddq);
-    seen::cells(seen, dddq, n.dddq)
+    let seen = seen::answered(seen, number, c.number);
+    let seen = seen::cells(seen, q, c.q_written);
+    let seen = seen::cells(seen, dq, c.dq_written);
+    let seen = seen::cells(seen, ddq, c.ddq_written);
+    seen::cells(seen, dddq, c.dddq_written)
 }
 
 fn filled() -> [f64; 32]
@@ -127,7 +121,7 @@ fn call(seen: Seen, path: PathRecord, coeffs: &[f64]) -> Seen {
         &mut ddq[8..8 + read::least(c.ddq, 16)],
         &mut dddq[8..8 + read::least(c.dddq, 16)],
     );
-    judged(seen, number, &q, &dq, &ddq, &dddq)
+    judged(seen, c, number, &q, &dq, &ddq, &dddq)
 }
 
 fn calls(seen: Seen, path: PathRecord, coeffs: &[f64], n: usize) -> Seen {
