@@ -13,6 +13,7 @@ use crate::library::raw::spline_build;
 use crate::random::Random;
 use crate::rows::{alike, best, counted, guarded, kept, lent, print_time, same_bits, Count, Refusals};
 use crate::spline::{coefficients, inv_ds, SplinePath};
+use crate::trials;
 use std::hint::black_box;
 use std::time::Instant;
 
@@ -309,39 +310,83 @@ pub fn time() {
     }
 }
 
-// ---- pieces
+// ---- trials
 
-fn bits_sum(list: &[f64]) -> u64 {
-    list.iter().fold(0u64, |sum, x| sum.wrapping_mul(3).wrapping_add((x + 0.0).to_bits()))
+/// A build of crates/test_build: the call, and what the Rust makes of it.
+fn trial(name: &str, b: &Build) {
+    assert_eq!(b.number(), 0);
+    let path = b.path().expect("the Rust builds it");
+    trials::name(name);
+    trials::whole("order", b.order);
+    trials::float("s_min", b.s_min);
+    trials::float("s_max", b.s_max);
+    trials::whole("mode", b.clamp.into());
+    for (end, state) in [("start", &b.start), ("end", &b.end)] {
+        let (kind, rows, columns) = shape(state, b.axes, b.order / 2);
+        trials::whole(&format!("{end} kind"), kind.into());
+        trials::whole(&format!("{end} rows"), rows);
+        trials::whole(&format!("{end} columns"), columns);
+    }
+    trials::whole("points", b.points);
+    trials::whole("axes", b.axes);
+    for (list, length) in ["waypoints", "start", "end"].iter().zip(lists(b)) {
+        trials::whole(list, length.len());
+    }
+    trials::whole("cells", b.cells);
+    for (list, on_a_line) in lists(b).into_iter().zip([b.axes, b.start.numbers.len(), b.end.numbers.len()]) {
+        trials::floats(list, on_a_line);
+    }
+    trials::whole("= number", 0);
+    trials::whole("= order", b.order);
+    trials::whole("= segments", b.points - 1);
+    trials::whole("= axes", b.axes);
+    trials::float("= s_min", b.s_min);
+    trials::float("= s_max", b.s_max);
+    trials::float("= inv_ds", inv_ds(&path));
+    trials::whole("= mode", b.clamp.into());
+    trials::whole("= cells", b.cells);
+    trials::floats(coefficients(&path), b.order + 1);
 }
 
-/// The builds of crates/build_pieces, by the Rust: coefficients, inv_ds and the sum of all bits.
-pub fn pieces() {
-    let none = || State { given: None, numbers: vec![] };
+/// The last trials of crates/test_build: trial pieces m, n and o of document 01 and four more, by the Rust.
+pub fn trials() {
+    let none = |beside: &[f64]| State { given: None, numbers: beside.to_vec() };
     let given =
         |axes: usize, marked: bool, numbers: &[f64]| State { given: Some((axes, numbers.len() / axes, marked)), numbers: numbers.to_vec() };
     let piece = |name: &str, order: usize, axes: usize, waypoints: &[f64], start: State, end: State, s_max: f64| {
         let points = waypoints.len() / axes;
         let cells = axes * (points - 1) * (order + 1);
-        let b = Build { order, points, axes, waypoints: waypoints.to_vec(), start, end, s_min: 0.0, s_max, clamp: true, cells };
-        assert_eq!(b.number(), 0);
-        let path = b.path().expect("the Rust builds it");
-        let list = coefficients(&path);
-        let shown = if list.len() <= 24 { format!("{list:?}") } else { format!("{} coefficients", list.len()) };
-        println!("{name}: inv_ds {:016x}, {shown}, bits {:016x}", inv_ds(&path).to_bits(), bits_sum(list));
-        if name.starts_with("divided") {
-            println!("  {}", list.iter().map(|x| format!("{:016x}", x.to_bits())).collect::<Vec<_>>().join(" "));
-        }
+        trial(name, &Build { order, points, axes, waypoints: waypoints.to_vec(), start, end, s_min: 0.0, s_max, clamp: true, cells });
     };
-    piece("m", 3, 1, &[0.0, 1.0], none(), none(), 49.0);
-    piece("n", 3, 1, &[0.0, 1.0], given(1, true, &[3.0]), none(), 2.0);
+    let (unit, seven) = ([0.0, 1.0], [7.0]);
+    trials::remark("From here on printed by compare/run SPLINE_RS builds trials:");
+    trials::remark("the answers are the Rust's.");
+    trials::remark("Range 0 to 49. The coefficients are piece a's: no state, so the");
+    trials::remark("range does not count.");
+    piece("m", 3, 1, &unit, none(&seven), none(&seven), 49.0);
+    trials::remark("Range 0 to 2, start 3 per unit of s: \"coefficient 1 is 6\". The");
+    trials::remark("last two by table H of document 01: 3 - 2 * 6 and -2 + 6.");
+    piece("n", 3, 1, &unit, given(1, true, &[3.0]), none(&[3.0]), 2.0);
+    trials::remark("Axis one is piece f. Axis two has the points 0 0 0, start 48 0");
+    trials::remark("and end 0 24: B u = -A start - C end gives the inner node");
+    trials::remark("-18 36, and table H the rest.");
     let waypoints = [0.0, 0.0, 3.0, 0.0, 0.0, 0.0];
     piece("two axes, order 5", 5, 2, &waypoints, given(2, false, &[0.0, 48.0, 0.0, 0.0]), given(2, false, &[0.0, 0.0, 0.0, 24.0]), 1.0);
-    piece("per unit of s, order 5", 5, 1, &[0.0, 1.0], given(1, true, &[3.0, 5.0]), none(), 4.0);
-    piece("divided in turn, order 7", 7, 1, &[0.0, 1.0], given(1, true, &[3.0, 3.0, 3.0]), none(), 49.0);
-    piece("NaN beside none, order 5", 5, 1, &[0.0, 1.0], none(), none(), 1.0);
+    trials::remark("Range 0 to 4, so inv_ds is 1/4; start 3 5 per unit of s: the");
+    trials::remark("first is divided once and is 12, the second twice and is 80.");
+    trials::remark("The rest by table H.");
+    piece("per unit of s, order 5", 5, 1, &unit, given(1, true, &[3.0, 5.0]), none(&[3.0, 5.0]), 4.0);
+    trials::remark("Range 0 to 49, start 3 3 3 per unit of s. 1/49 is no float, and");
+    trials::remark("dividing 3 by its square or its cube gives other bits than \"one");
+    trials::remark("division after another\". The Rust is given the quotients.");
+    piece("divided in turn, order 7", 7, 1, &unit, given(1, true, &[3.0, 3.0, 3.0]), none(&seven), 49.0);
+    trials::remark("A state that is none has zeros, whatever stands in the list");
+    trials::remark("beside it. The coefficients are piece b's.");
+    piece("NaN beside none, order 5", 5, 1, &unit, none(&[f64::NAN; 3]), none(&[f64::NAN; 3]), 1.0);
+    trials::remark("\"The points 0, 1, .. 256 are accepted\". Orders 5 and 7 are the");
+    trials::remark("Rust's over the stand-in for nalgebra's factoring and solving.");
     let line: Vec<f64> = (0..257).map(f64::from).collect();
     for order in [3, 5, 7] {
-        piece(&format!("o, 257 points, order {order}"), order, 1, &line, none(), none(), 1.0);
+        piece(&format!("o, 257 points, order {order}"), order, 1, &line, none(&seven), none(&seven), 1.0);
     }
 }

@@ -6,6 +6,7 @@
 use crate::library::raw::spline_mul_add;
 use crate::random::Random;
 use crate::rows::{least, print_time, same_bits, Count};
+use crate::trials;
 use std::hint::black_box;
 
 type Triple = (f64, f64, f64);
@@ -158,27 +159,33 @@ fn look_at_the_processor() {
     assert!(is_x86_feature_detected!("fma"), "a processor without a fused multiply-add");
 }
 
-pub fn list() {
-    look_at_the_processor();
-    let line = |(a, b, c): Triple| {
-        // SAFETY: the processor has the instruction, as was just seen.
+/// The triples of crates/test_fused, each with the processor's result.
+fn trial(name: &str, triples: &[Triple]) {
+    trials::name(name);
+    trials::whole("triples", triples.len());
+    for &(a, b, c) in triples {
+        // SAFETY: the processor has the instruction, as `trials` has seen.
         let r = unsafe { expected(a, b, c) };
-        let bits = |x: f64| if x.is_nan() { f64::NAN.to_bits() } else { x.to_bits() };
-        println!("{:016x} {:016x} {:016x} {:016x}", bits(a), bits(b), bits(c), bits(r));
-    };
-    let special = specials();
-    for &a in &special {
-        for &b in &special {
-            for &c in &special {
-                line((a, b, c));
-            }
-        }
+        trials::floats(&[a, b, c, r], 4);
     }
+}
+
+pub fn trials() {
+    look_at_the_processor();
+    trials::remark("Fused multiply-adds, as crates/test_fused makes them, with the");
+    trials::remark("results of a processor: all of it is printed by compare/run");
+    trials::remark("SPLINE_RS fused trials. A family is its name, how many triples");
+    trials::remark("it has, and a line for each: a, b, c and a * b + c, by the 16");
+    trials::remark("hexadecimal digits of their bits. Places count: a name and a");
+    trials::remark("remark have 67 characters, a field 33, a float 16.");
+    let special = specials();
+    let pairs = special.iter().flat_map(|&a| special.iter().map(move |&b| (a, b)));
+    let triples: Vec<Triple> = pairs.flat_map(|(a, b)| special.iter().map(move |&c| (a, b, c))).collect();
+    trial("special operands", &triples);
     let mut random = Random(0x9e37_79b9_7f4a_7c15);
-    for family in 0..FAMILIES.len() {
-        for n in 0..2101 {
-            line(triple(family, n, &mut random));
-        }
+    for (family, name) in FAMILIES.iter().enumerate() {
+        let triples: Vec<Triple> = (0..2101).map(|n| triple(family, n, &mut random)).collect();
+        trial(name, &triples);
     }
 }
 
@@ -189,7 +196,7 @@ pub fn compare(count: u64) {
         let mut random = Random(0x1234_5678_9abc_def1 + family as u64);
         for n in 0..count / FAMILIES.len() as u64 {
             let (a, b, c) = triple(family, n, &mut random);
-            // SAFETY: as in `list`; the library's function takes any floats.
+            // SAFETY: as in `trial`; the library's function takes any floats.
             let (r, e) = unsafe { (spline_mul_add(a, b, c), expected(a, b, c)) };
             all.calls += 1;
             if !same_bits(r, e) {

@@ -3,10 +3,10 @@
 //!
 //!   compare PERCENT   every comparison, a row each; 100 for the numbers of calls that README tells of
 //!   time              every timing, a row each
-//!   fused list        the list that crates/fused_vectors replays in the gate
-//!   queries vectors   the list that crates/query_vectors replays in the gate
-//!   masters vectors   the list that crates/master_vectors replays in the gate
-//!   builds pieces     what crates/build_pieces expects, by the Rust alone
+//!   fused trials      the trials of crates/test_fused
+//!   queries trials    the last trials of crates/test_query
+//!   masters trials    the last trials of crates/test_master
+//!   builds trials     the last trials of crates/test_build
 
 use input::{diag, path};
 
@@ -26,6 +26,7 @@ mod set;
 // The text of src/path/spline.rs, unchanged, with functions after it that hand out what is private there.
 #[allow(dead_code)]
 mod spline;
+mod trials;
 
 fn compare(percent: u64) {
     fused::compare(800_000 * percent);
@@ -46,10 +47,10 @@ fn main() {
     match words.iter().map(String::as_str).collect::<Vec<_>>().as_slice() {
         ["compare", percent] => compare(percent.parse().expect("a whole number")),
         ["time"] => time(),
-        ["fused", "list"] => fused::list(),
-        ["queries", "vectors"] => queries::vectors(5_040),
-        ["masters", "vectors"] => masters::vectors(),
-        ["builds", "pieces"] => builds::pieces(),
-        _ => panic!("compare PERCENT, time, fused list, queries vectors, masters vectors or builds pieces"),
+        ["fused", "trials"] => fused::trials(),
+        ["queries", "trials"] => queries::trials(5_040),
+        ["masters", "trials"] => masters::trials(),
+        ["builds", "trials"] => builds::trials(),
+        _ => panic!("compare PERCENT, time, or trials of fused, builds, queries or masters"),
     }
 }

@@ -10,6 +10,7 @@ use crate::library::check_master;
 use crate::random::Random;
 use crate::rows::{best, counted, print_time, Count, Refusals, GUARD};
 use crate::set::{binomial, Set, LIMIT};
+use crate::trials;
 use std::hint::black_box;
 
 /// The answer as a number, as C gets it.
@@ -91,17 +92,11 @@ fn size(set: &Set) -> usize {
     set.lists().iter().map(|list| list.len()).sum()
 }
 
-// ---- vectors
+// ---- trials
 
-/// A sign and twelve hexadecimal digits.
-fn number(z: i64) -> String {
-    format!("{}{:012x}", if z < 0 { '-' } else { '+' }, z.unsigned_abs())
-}
-
-/// A line with order, points, how many numbers there are, the answer, and how many changes follow; a line for each number:
-/// waypoints, start, end and table; and a line for each change: the place, the number that stands there then, and the answer.
-/// Each change is made to the set as it was. Answers: 0 no, 1 yes, else the refusal's number. All is hexadecimal.
-fn print(random: &mut Random, set: &Set) {
+/// A set of crates/test_master with its answer, and changes, each of which is made to the set as it was: a place among its
+/// numbers, what stands there then, and the answer.
+fn trial(random: &mut Random, name: &str, set: &Set) {
     let (points, m) = (set.waypoints.len(), set.start.len());
     let all = size(set);
     let ends = [0, points - 1, points, points + m - 1, points + m, points + 2 * m - 1, points + 2 * m, all - 1];
@@ -116,27 +111,36 @@ fn print(random: &mut Random, set: &Set) {
     for z in [LIMIT, -LIMIT, LIMIT + 1, -LIMIT - 1] {
         changes.push((random.below(all as u64) as usize, z));
     }
-    println!("{:x} {points:03x} {all:04x} {:x} {:02x}", set.order, set.answer(), changes.len());
-    for &z in set.lists().into_iter().flatten() {
-        println!("{}", number(z));
+    trials::name(name);
+    trials::whole("order", set.order);
+    for (what, list) in ["waypoints", "start", "end", "table"].iter().zip(set.lists()) {
+        trials::whole(what, list.len());
     }
+    for (list, on_a_line) in set.lists().into_iter().zip([8, m, m, set.order + 1]) {
+        trials::integers(list, on_a_line);
+    }
+    trials::whole("= answer", set.answer() as usize);
+    trials::whole("changes", changes.len());
     for (place, z) in changes {
         let mut changed = set.clone();
         *cell(&mut changed, place) = z;
-        println!("{place:04x} {} {:x}", number(z), changed.answer());
+        trials::integers(&[place as i64, z, changed.answer().into()], 3);
     }
 }
 
-pub fn vectors() {
+/// The last trials of crates/test_master: sets made in exact arithmetic, good ones and some that are smooth to r = m alone.
+pub fn trials() {
     let mut random = Random(0x9b05_688c_2b3e_6c1f);
+    trials::remark("From here on printed by compare/run SPLINE_RS masters trials:");
+    trials::remark("the answers are document 01's equations over exact numbers.");
     for order in ORDERS {
         for points in [2, 2, 3, 3, 3, 4, 4, 5, 5, 6, 7, 9, 16, 33, 64, 129, 255, 256, 257] {
             let set = good(&mut random, order, points - 1);
-            print(&mut random, &set);
+            trial(&mut random, &format!("good, order {order}, {points} points"), &set);
         }
         for points in [3, 4, 5, 17] {
             let set = smooth(&mut random, order, points - 1);
-            print(&mut random, &set);
+            trial(&mut random, &format!("smooth to the eye, order {order}, {points} points"), &set);
         }
     }
 }

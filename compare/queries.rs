@@ -12,6 +12,7 @@ use crate::query::Query;
 use crate::random::Random;
 use crate::rows::{alike, best, counted, guarded, kept, lent, print_time, same_bits, Count, Refusals, GUARD};
 use crate::spline::{coefficients, eval_poly, path_of, segment_tau, SplinePath};
+use crate::trials;
 use std::hint::black_box;
 
 /// The four buffers: positions, first, second and third derivatives.
@@ -175,9 +176,9 @@ fn served(random: &mut Random) -> Query {
     q
 }
 
-// ---- vectors
+// ---- trials
 
-/// The table of a path of the list, which the program makes too: from the seed on each number is 48271 times the
+/// The table of a path, which crates/test_query makes too: from the seed on each number is 48271 times the
 /// last one, modulo 2^31 - 1, and two of them in turn are the digits of a coefficient.
 fn stated(kind: u64, seed: u64, cells: usize) -> Vec<f64> {
     let mut x = seed;
@@ -214,12 +215,12 @@ fn numbers(path: &SplinePath, q: &Query, s: f64) -> Buffers<Vec<f64>> {
     full
 }
 
-/// A line for each path: order, segments, axes, how many coefficients and of which kind, mode, seed, s_min, s_max and
-/// inv_ds. Under it eight lines, each with an s, and the position, first, second and third derivative there, each
-/// axis by axis, which stand for a query of each level. All numbers are hexadecimal, and floats are their bits.
-pub fn vectors(count: u64) {
-    let bits = |x: f64| format!("{:016x}", if x.is_nan() { f64::NAN.to_bits() } else { x.to_bits() });
+/// The last trials of crates/test_query: so many queries at least. Under a path stand eight places, each with a query of
+/// every level.
+pub fn trials(count: u64) {
     let mut random = Random(0x3c6e_f372_fe94_f82b);
+    trials::remark("From here on printed by compare/run SPLINE_RS queries trials:");
+    trials::remark("the answers are the Rust's.");
     for n in 0..count.div_ceil(LEVELS.len() as u64 * PLACES) {
         let (order, kind, seed) = (ORDERS[n as usize % 3], n / 3 % KINDS, 1 + random.below(0x7fff_fffe));
         let few = 1 + random.below(8) as usize;
@@ -231,14 +232,29 @@ pub fn vectors(count: u64) {
             (q.segments, q.s_min, q.s_max, q.inv_ds) = (1, 0.0, 49.0, 1.0 / 49.0);
         }
         let path = in_rust(&q, &stated(kind, seed, q.axes * q.segments * (q.order + 1)));
-        let counts = format!("{order:x} {:03x} {axes:x} {:04x}", q.segments, coefficients(&path).len());
-        println!("{counts} {kind:x} {:x} {seed:08x} {} {} {}", q.clamp as u8, bits(q.s_min), bits(q.s_max), bits(q.inv_ds));
+        trials::name(&format!("path {n}"));
+        trials::whole("order", order);
+        trials::whole("segments", q.segments);
+        trials::whole("axes", axes);
+        trials::float("s_min", q.s_min);
+        trials::float("s_max", q.s_max);
+        trials::float("inv_ds", q.inv_ds);
+        trials::whole("mode", q.clamp.into());
+        trials::whole("coefficients", coefficients(&path).len());
+        trials::whole("kind", kind as usize);
+        trials::whole("seed", seed as usize);
+        trials::whole("queries", LEVELS.len() * PLACES as usize);
         for which in 0..PLACES {
             let s = place(&mut random, &q, which);
             let s = if q.clamp { s } else { nearest(&q, s) };
             let found = numbers(&path, &q, nearest(&q, s));
-            let line: Vec<String> = [s].iter().chain(found.iter().flatten()).map(|&x| bits(x)).collect();
-            println!("{}", line.join(" "));
+            for level in LEVELS {
+                let written = [0, 1, 2, 3].map(|k| if writes(level, k) { axes } else { 0 });
+                // entry point eval_at, level, how many cells each buffer has, number, how many are written
+                let line = [&[0, level], &[axes; 4][..], &[0], &written].concat();
+                println!("{} {}", trials::bits(s), line.iter().map(|n| format!("{n:>3}")).collect::<Vec<_>>().join(" "));
+                found.iter().zip(written).for_each(|(list, n)| trials::floats(&list[..n], n));
+            }
         }
     }
 }

@@ -14,14 +14,8 @@ number nan h = subst T h tt
 number (inf s) h = tt
 number (fin s m e) h = tt
 
-returns : tie.Need-returns
-returns c = search needs
-
 float-to-bits-result : tie.Need-float-to-bits-result
 float-to-bits-result c = number (c .before .args .x) (c .if1 .left)
 
-returns-2 : tie.Need-returns-2
-returns-2 c = search needs
-
 pub bits-of-spec : {M : Type 1} → statement M
-bits-of-spec = tie.close (tie.spec returns float-to-bits-result returns-2)
+bits-of-spec = tie.close (tie.spec (λ c. search needs) float-to-bits-result (λ c. search needs))

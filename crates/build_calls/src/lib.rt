@@ -1,3 +1,0 @@
-// What the programs that try the build out share.
-pub mod pieces;
-pub mod refusals;
