@@ -13,7 +13,7 @@ use Rattle.rules.specs.Floats.{+0}
 use Rattle.rules.specs.Query.{Lengths, evalPoly, perUnitOfS}
 use Rattle.rules.proofs.Build.{by-order}
 use Rattle.law_lists.proofs.Places.{cell-inside}
-use Rattle.rules.proofs.Fills as Fills
+use Rattle.rules.proofs.FilledList as Fills
 use Rattle.rules.proofs.FilledList.{Filled}
 use Rattle.law_lists.proofs.Lists.{part-inside}
 use Rattle.query_axes.specs.Evaluation.{Evaluable}

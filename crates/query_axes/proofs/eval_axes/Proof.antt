@@ -10,7 +10,7 @@ use lib.Ieee.{Float}
 use borrow.Author.Needs.{needs}
 use Rattle.rules.specs.Floats.{_⊗_}
 use Rattle.rules.specs.Query.{writes, evalPoly, perUnitOfS, segmentOf}
-use Rattle.rules.proofs.Fills as Fills
+use Rattle.rules.proofs.FilledList as Fills
 use Rattle.rules.proofs.FilledList.{Filled}
 use Rattle.query_poly.specs.declared.Derivatives.{Derivatives}
 use Rattle.query_poly.specs.Level.{asked}
