@@ -42,13 +42,17 @@ abbrev given : Place → BuildInput
 given p =
     let a = start p .args in
     inputOf
-    (configOf (a .order) (a .s-min) (a .s-max) (a .mode) (stateOf (a .start-kind) (a .start-rows) (a .start-cols)) (stateOf (a .end-kind) (a .end-rows) (a .end-cols)))
+    (configOf (a .order) (a .s-min) (a .s-max) (a .mode)
+    (stateOf (a .start-kind) (a .start-rows) (a .start-cols))
+    (stateOf (a .end-kind) (a .end-rows) (a .end-cols)))
     (a .points) (a .axes) (a .waypoints .now) (a .start .now) (a .end .now)
 
 abbrev buffer : Place → List Float
 buffer p = start p .args .coeffs .now
 
-built : (p : Place) → (p .from-waypoints-view .result ≡ buildAnswer (given p) (length (buffer p))) × (p .from-waypoints-view .last .1 .1 .1 .1 .1 .1 .0 ≡ bufferAfter (given p) (buffer p))
+built : (p : Place)
+    → (p .from-waypoints-view .result ≡ buildAnswer (given p) (length (buffer p)))
+    × (p .from-waypoints-view .last .1 .1 .1 .1 .1 .1 .0 ≡ bufferAfter (given p) (buffer p))
 built p =
     let q = p .before .before in
     rw (q .before .before .mode-of .ensures, q .before .state-of .ensures, q .state-of2 .ensures) at (p .from-waypoints-view .ensures)
