@@ -11,9 +11,8 @@ use lib.ListN.{length}
 use lib.Ieee.{Float}
 use Rattle.rules.specs.declared.PathRecord.{PathRecord}
 use Rattle.rules.specs.Questions.{firstNo}
-use Rattle.rules.specs.Build.{BuildInput, inputQuestions, buildNumber}
+use Rattle.rules.specs.Build.{BuildInput, inputQuestions, buildNumber, inputOf}
 use Rattle.rules.proofs.BuildAnswers.{no-number, pivot-number, yes-number, refused-answer, accepted-answer, refused-buffer, accepted-buffer}
-use Rattle.rules.specs.Build.{inputOf}
 use Rattle.build_axes.specs.AllAxes.{allAxes}
 use Rattle.build.proofs.Answered.{planOf, order-known, points-known, planned, cells-are, table-is}
 use Rattle.build.proofs.from_waypoints_view.Statement.{statement}

@@ -7,8 +7,7 @@ use lib.Ieee.{Float}
 use Prim.Native.Nat.{ℕ}
 use Rattle.law_lists.proofs.Lists.{length-listed}
 use Rattle.law_lists.proofs.Lent.{both-halves}
-use Rattle.build_plan.specs.Given.{endNumbers}
-use Rattle.build_plan.specs.Given.{firstOf, lastOf}
+use Rattle.build_plan.specs.Given.{endNumbers, firstOf, lastOf}
 use borrow.Author.Needs.{needs}
 use Rattle.build_plan.proofs.both_ends.Statement.{statement}
 use Rattle.build_plan.proofs.both_ends.Tie as tie

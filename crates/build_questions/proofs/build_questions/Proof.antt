@@ -10,10 +10,9 @@ use lib.ListN.{drop}
 use borrow.Author.Needs.{needs}
 use borrow.Author.Tests.{le-leb, lt-leb, eq-eqb, ne-eqb}
 use Rattle.rules.specs.Questions.{Question, firstNo}
-use Rattle.rules.specs.Build.{validAxes, inputQuestions}
+use Rattle.rules.specs.Build.{validAxes, inputQuestions, inputOf}
 use Rattle.rules.proofs.Questions.{yes-to, no-to}
 use Rattle.rules.proofs.Build.{by-order}
-use Rattle.rules.specs.Build.{inputOf}
 use Rattle.questions.proofs.Tests.{no, yes}
 use Rattle.build_questions.proofs.build_questions.Statement.{statement}
 use Rattle.build_questions.proofs.build_questions.Tie as tie

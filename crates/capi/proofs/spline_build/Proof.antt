@@ -9,8 +9,7 @@ use lib.Dec.{eqb}
 use lib.ListN.{length}
 use lib.Ieee.{Float}
 use Rattle.rules.specs.declared.BuildAnswer.{BuildAnswer}
-use Rattle.rules.specs.Build.{BuildInput, invDs, acceptedRecord, buildNumber, buildAnswer, bufferAfter}
-use Rattle.rules.specs.Build.{inputOf}
+use Rattle.rules.specs.Build.{BuildInput, invDs, acceptedRecord, buildNumber, buildAnswer, bufferAfter, inputOf}
 use Rattle.capi_numbers.specs.Meaning.{stateOf, configOf}
 use Rattle.capi.proofs.spline_build.Statement.{statement}
 use Rattle.capi.proofs.spline_build.Tie as tie
