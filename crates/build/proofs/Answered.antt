@@ -1,5 +1,5 @@
--- What a build may rely on where the questions about its input say yes: how large its numbers are and how long its lists, `planned` and `cells-are`. And the axes'
--- coefficients, as `fill` leaves them, are the table: `table-is`. Assumes nothing.
+-- What a build may rely on where the questions about its input say yes: how large its numbers are and how long its lists,
+-- `planned` and `cells-are`. And the axes' coefficients, as `fill` leaves them, are the table: `table-is`. Assumes nothing.
 use mathlib.Core.Path.{_≡_, sym, ap, ap₂, _∙_}
 use mathlib.Core.Bool.{_&&_}
 use mathlib.Core.List.{List}

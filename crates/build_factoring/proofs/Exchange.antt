@@ -97,7 +97,10 @@ module _ (m : ℕ) (a₀ : List Float) (k p : ℕ) where
   exchange-step j a b h l n e =
       rw (entry-read m a p j n l b, entry-read m a k j n h b)
       (sym (matrix-of m m next (simp length-set n))
-      ∙ matrix-ext m m (entry m next) _ (λ i c v w. swapped-at +0 a (k * m + j) (p * m + j) (rw n (cell-inside m h b)) (rw n (cell-inside m l b)) (i * m + c) ∙ cell i c v w (same-or-not c j) (lt-or-le c j)))
+      ∙ matrix-ext m m (entry m next) _
+      (λ i c v w.
+      swapped-at +0 a (k * m + j) (p * m + j) (rw n (cell-inside m h b)) (rw n (cell-inside m l b)) (i * m + c)
+      ∙ cell i c v w (same-or-not c j) (lt-or-le c j)))
     where
       next : List Float
       next = swapped +0 a (k * m + j) (p * m + j) (rw n (cell-inside m h b)) (rw n (cell-inside m l b))

@@ -43,7 +43,9 @@ of-zero (inf s) f h = absurd (subst T (sym h) tt)
 of-zero (fin s zero (pos zero)) f h = refl
 of-zero (fin s zero (pos (suc k))) f h = absurd (no-power k (2 ^ suc k * 1) (mul-one _) (eqb-true _ _ f))
 of-zero (fin s zero (negsuc k)) f h = absurd (no-power k (1 * 2 ^ suc k) (one-mul _) (eqb-true _ _ f))
-of-zero (fin s (suc m) e) f h = absurd (not-level (suc m * up e * 1) (0 * 1 * down e) s (mul-pos (mul-pos (zero-lt-suc m) (up-pos e)) (zero-lt-suc 0)) (zero-mul _) h)
+of-zero (fin s (suc m) e) f h =
+    let some : 0 < suc m * up e * 1 = mul-pos (mul-pos (zero-lt-suc m) (up-pos e)) (zero-lt-suc 0) in
+    absurd (not-level (suc m * up e * 1) (0 * 1 * down e) s some (zero-mul _) h)
 
 pub of-rest : (x : Float) → lt x +0 ≡ false → eq x +0 ≡ false → x ≡ magnitude x
 unfolding lt eq

@@ -1,4 +1,5 @@
--- A single step of `factor` of crates/rules/specs/Solve.antt by itself, for the functions that make it. A reader of `factor`'s contract does not need it. Assumes nothing.
+-- A single step of `factor` of crates/rules/specs/Solve.antt by itself, for the functions that make it. A reader of `factor`'s
+-- contract does not need it. Assumes nothing.
 use Prim.Native.Nat.{ℕ, _*_, _/_, _%_}
 use mathlib.Core.Bool.{cond, _||_}
 use mathlib.Core.List.{List, _++_}

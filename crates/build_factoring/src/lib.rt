@@ -68,7 +68,9 @@ fn exchange_rows(rows: &mut [usize], k: usize, p: usize)
 // done in row i too.
 fn eliminate_row(m: usize, a: &mut [f64], k: usize, i: usize, reciprocal: f64)
     requires { ⌜ (k < i) × (i < m) × (length (now a) ≡ m * m) ⌝ }
-    ensures { λ r. ⌜ ((b : List Float) → length b ≡ m * m → now (a .entry) ≡ eliminatedTo m k reciprocal b i → now (a .exit) ≡ eliminatedTo m k reciprocal b (i + 1)) ⌝ }
+    ensures { λ r. ⌜ ((b : List Float) → length b ≡ m * m
+        → now (a .entry) ≡ eliminatedTo m k reciprocal b i
+        → now (a .exit) ≡ eliminatedTo m k reciprocal b (i + 1)) ⌝ }
 {
     let multiplier = a[i * m + k] * reciprocal;
     a[i * m + k] = multiplier;
@@ -122,7 +124,9 @@ fn nonzero_pivots(m: usize, a: &[f64]) -> bool
 // rules of floats say, and the answer is false.
 pub fn factor(m: usize, a: &mut [f64], rows: &mut [usize]) -> bool
     requires { ⌜ (length (now a) ≡ m * m) × (length (now rows) ≡ m) ⌝ }
-    ensures { λ r. ⌜ (r ≡ nonzeroPivots m (factor m (now (a .entry)))) × (now (a .exit) ≡ factor m (now (a .entry)) .entries) × (now (rows .exit) ≡ factor m (now (a .entry)) .rows) ⌝ }
+    ensures { λ r. ⌜ (r ≡ nonzeroPivots m (factor m (now (a .entry))))
+        × (now (a .exit) ≡ factor m (now (a .entry)) .entries)
+        × (now (rows .exit) ≡ factor m (now (a .entry)) .rows) ⌝ }
 {
     identity(rows);
     let mut k = 0;

@@ -72,8 +72,10 @@ module _ (m : ℕ) where
       rw (size, solved-part j solved (subst (λ (k : ℕ). SolvedTo m k solved) (sym e) h), s .is, t .is) (next-matrix j) ∙ ap (nodeMatrix m) e
 
   -- what solving with a node's factors gives
-  pub solved-node : (i : ℕ) (a c entries : List Float) (rows : List ℕ) {out : List Float} → a ≡ nodeMatrix m i → entries ≡ factor m a .entries → rows ≡ factor m a .rows
-      → c ≡ transposed m (C m) → out ≡ transposed m (solveMatrix m (record { entries = entries; rows = rows }) (transposed m c)) → out ≡ transposed m (solvedC m i)
+  pub solved-node : (i : ℕ) (a c entries : List Float) (rows : List ℕ) {out : List Float} → a ≡ nodeMatrix m i
+      → entries ≡ factor m a .entries → rows ≡ factor m a .rows → c ≡ transposed m (C m)
+      → out ≡ transposed m (solveMatrix m (record { entries = entries; rows = rows }) (transposed m c))
+      → out ≡ transposed m (solvedC m i)
   unfolding solvedC nodeFactors
   solved-node i a c entries rows n e r t o = rw (o, t, e, r, n) (ap (transposed m) (solve-twice (factor m (nodeMatrix m i)) (C m)))
 

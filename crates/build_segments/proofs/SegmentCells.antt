@@ -20,7 +20,8 @@ assembled m y [] left upper e l u = absurd (no m e)
 assembled m y (x ∷ out) left upper e l u =
     ap₂ (λ (front rest : List Float). front ++ (upper ++ rest))
     (take-at (y ∷ left) rest (m + 1) size)
-    (ap (drop (m + 1 + m + 1 - (m + 1))) (drop-at (y ∷ left) rest (m + 1) size) ∙ drop-of-length-le rest {i = m + 1 + m + 1 - (m + 1)} (simp length-drop (omega (arith, tail x out e))))
+    (ap (drop (m + 1 + m + 1 - (m + 1))) (drop-at (y ∷ left) rest (m + 1) size)
+    ∙ drop-of-length-le rest {i = m + 1 + m + 1 - (m + 1)} (simp length-drop (omega (arith, tail x out e))))
     ∙ ap (λ (l : List Float). y ∷ (left ++ l)) (append-nil upper)
   where
     rest : List Float

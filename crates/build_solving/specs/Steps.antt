@@ -1,4 +1,5 @@
--- Single steps of crates/rules/specs/Solve.antt by themselves, for the functions that make them. A reader of the public contracts needs none of these. Assumes nothing.
+-- Single steps of crates/rules/specs/Solve.antt by themselves, for the functions that make them. A reader of the public
+-- contracts needs none of these. Assumes nothing.
 use mathlib.Core.Path.{_≡_}
 use Prim.Native.Nat.{ℕ, _*_}
 use mathlib.Core.Bool.{cond}

@@ -79,7 +79,8 @@ pub fn solve(m: usize, entries: &[f64], rows: &[usize], b: &[f64], y: &mut [f64]
 // R10: a matrix solved, column by column, from c into out; both are kept by columns.
 pub fn solve_matrix(m: usize, entries: &[f64], rows: &[usize], c: &[f64], out: &mut [f64])
     requires { ⌜ (length (now entries) ≡ m * m) × (length (now rows) ≡ m) × Below m (now rows) × (length (now c) ≡ m * m) × (length (now out) ≡ m * m) ⌝ }
-    ensures { λ r. ⌜ now (out .exit) ≡ transposed m (solveMatrix m (record { entries = now (entries .entry); rows = now (rows .entry) }) (transposed m (now (c .entry)))) ⌝ }
+    ensures { λ r. ⌜ now (out .exit)
+        ≡ transposed m (solveMatrix m (record { entries = now (entries .entry); rows = now (rows .entry) }) (transposed m (now (c .entry)))) ⌝ }
 {
     let mut j = 0;
     while j < m {

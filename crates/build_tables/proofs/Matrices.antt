@@ -5,7 +5,7 @@ use Prim.Native.Nat.{ℕ, _+_, _-_, _*_, _≤_}
 use native.Mathlib.Nat.{min-le-right, sub-zero}
 use lib.ListN.{length, take, length-take}
 use lib.Ieee.{Float}
-use Rattle.build_products.specs.Columns.{ByRows, ByColumns, HoldsA, HoldsB, HoldsC, HoldsR, HoldsH}
+use Rattle.build_products.specs.Columns.{HoldsA, HoldsB, HoldsC, HoldsR, HoldsH}
 use Rattle.build_products.proofs.Transposed.{rows-long, columns-long}
 use Rattle.build_tables.specs.declared.BlockMatrices.{BlockMatrices}
 use Rattle.build_tables.specs.Tables.{Matrices}

@@ -38,7 +38,12 @@ parts-replace (suc n) k i f g zs rest e h z s =
     go (inl q) r =
         let size : i * k + k - i * k ≡ k = omega arith in
         let before : length (joined n f) ≡ i * k = length-joined n k f (λ j l. e j (omega arith)) ∙ ap (λ (p : ℕ). p * k) (sym q) in
-        rw (size, take-at (joined n f) (f n ++ rest) (i * k) before, drop-at (joined n f) (f n ++ rest) (i * k) before, drop-at (f n) rest k (e n (omega arith)))
+        rw (
+          size,
+          take-at (joined n f) (f n ++ rest) (i * k) before,
+          drop-at (joined n f) (f n ++ rest) (i * k) before,
+          drop-at (f n) rest k (e n (omega arith)),
+        )
         (ap₂ (λ (xs ys : List Float). xs ++ (ys ++ rest)) (joined-ext n f g (λ j l. s j (omega arith) (inl (omega arith)))) (z ∙ ap g q))
     go (inr l) r = r l z (λ j b. s j (omega arith)) ∙ ap (λ (xs : List Float). joined n g ++ (xs ++ rest)) (s n (omega arith) (inr l))
 

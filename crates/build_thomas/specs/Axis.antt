@@ -1,16 +1,13 @@
 -- What the functions of one axis are lent. Assumes nothing.
 use mathlib.Core.Path.{_≡_}
-use Prim.Native.Nat.{ℕ, suc, _+_, _-_, _*_, _<_, _≤_}
-use mathlib.Core.Bool.{cond}
-use mathlib.Core.List.{List, _++_}
+use Prim.Native.Nat.{ℕ, suc, _+_, _*_, _<_, _≤_}
+use mathlib.Core.List.{List}
 use lib.ListN.{length, take, drop}
-use lib.Dec.{ltb}
 use lib.Ieee.{Float}
 use Rattle.rules.specs.Floats.{_!_}
 use Rattle.law_lists.specs.Lists.{listed}
-use Rattle.rules.specs.Tables.{A}
-use Rattle.rules.specs.Solve.{times, minus, nodeFactors, solvedC}
-use Rattle.rules.specs.Build.{ofAxis, dy, segmentCoefficients, boundedSide, solvedSide}
+use Rattle.rules.specs.Solve.{nodeFactors, solvedC}
+use Rattle.rules.specs.Build.{ofAxis, dy, segmentCoefficients}
 use Rattle.build_products.specs.Columns.{transposed}
 use Rattle.build_plan.specs.declared.Plan.{Plan}
 use Rattle.build_segments.specs.NodeNumbers.{nodePart}

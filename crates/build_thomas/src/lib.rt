@@ -122,7 +122,8 @@ fn write_segments<'a>(
         × (plan .n * plan .m ≤ length (now solved))
         × (length (now chunk) ≡ (plan .n + 1) * (2 * plan .m + 2)) ⌝ }
     ensures { λ x. ⌜ now (chunk .exit)
-        ≡ joined (plan .n + 1) (segmentOf (plan .m) (plan .n) (waypointsOf plan (now (waypoints .entry)) axis) (now (boundary .entry)) (now (solved .entry))) ⌝ }
+        ≡ joined (plan .n + 1)
+        (segmentOf (plan .m) (plan .n) (waypointsOf plan (now (waypoints .entry)) axis) (now (boundary .entry)) (now (solved .entry))) ⌝ }
 {
     let m = plan.m;
     let n = plan.n;

@@ -8,7 +8,8 @@ use lib.Ieee.Bits.{is-true}
 use lib.Ieee.Fits.{and-l}
 use Rattle.rules.specs.Build.{buildQuestions, inputQuestions, pivotQuestions, buildNumber}
 use Rattle.rules.specs.Query.{queryQuestions, pathQuestions, bufferQuestions, rangeQuestions, queryNumber}
-use Rattle.rules.specs.Master.{MasterSet, masterQuestions, sizeQuestions, lengthQuestions, numberQuestions, masterNumber, endpointEquations, jointEquations, checkMaster}
+use Rattle.rules.specs.Master.{MasterSet, masterQuestions, sizeQuestions, lengthQuestions, numberQuestions}
+use Rattle.rules.specs.Master.{masterNumber, endpointEquations, jointEquations, checkMaster}
 use Rattle.rules.proofs.Questions.{answer-passes}
 use Rattle.capi_numbers.specs.Meaning.{checkNumber, OneIsYes, buildNumbers, queryNumbers, checkNumbers, oneOf, NumbersAreListed}
 
@@ -38,7 +39,9 @@ one-is-yes s = (
     asked t = and-l (eqb (masterNumber s) 0) (endpointEquations s) (and-l (eqb (masterNumber s) 0 && endpointEquations s) (jointEquations s) t)
 
 pub numbers-are-listed : NumbersAreListed
-unfolding NumbersAreListed buildNumber buildQuestions inputQuestions pivotQuestions queryNumber queryQuestions pathQuestions bufferQuestions rangeQuestions masterNumber masterQuestions sizeQuestions lengthQuestions numberQuestions checkNumber checkMaster oneOf
+unfolding NumbersAreListed buildNumber buildQuestions inputQuestions pivotQuestions
+    queryNumber queryQuestions pathQuestions bufferQuestions rangeQuestions
+    masterNumber masterQuestions sizeQuestions lengthQuestions numberQuestions checkNumber checkMaster oneOf
 numbers-are-listed = (
   λ b cells. answer-passes (oneOf buildNumbers) (buildQuestions b cells) tt,
   λ i n. answer-passes (oneOf queryNumbers) (queryQuestions i n) tt,

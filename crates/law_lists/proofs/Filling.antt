@@ -1,11 +1,12 @@
--- Lists that a loop fills from the left: `filled i f xs` has f's cells below i, and those of xs from i on. Each law is a step of such a loop, its start or its end.
--- A list that is worked over in place is filled too: what is left to do is as it was. The same for parts of k cells each, `parts`. Assumes nothing.
+-- Lists that a loop fills from the left: `filled i f xs` has f's cells below i, and those of xs from i on. Each law is a step of
+-- such a loop, its start or its end. A list that is worked over in place is filled too: what is left to do is as it was.
+-- The same for parts of k cells each, `parts`. Assumes nothing.
 use mathlib.Core.Path.{_≡_, refl, sym, ap, _∙_, subst}
 use mathlib.Core.Bool.{Bool, true, false}
 use mathlib.Core.List.{List, [], _∷_, _++_, append-assoc, append-nil}
 use mathlib.Core.Logic.{_⊎_, inl, inr}
 use Prim.Native.Nat.{ℕ, zero, suc, _+_, _-_, _*_, _/_, _%_, _<_, _≤_}
-use native.Mathlib.Nat.{suc-mul, zero-mul, mul-zero, div-lt-iff-lt-mul, div-add-mod', mod-lt, eq-zero-or-pos, not-suc-le-zero, mul-add-div-right, mul-add-mod-self-right, div-eq-of-lt, mod-eq-of-lt, add-zero}
+use native.Mathlib.Nat.{suc-mul, zero-mul, not-suc-le-zero, mul-add-div-right, mul-add-mod-self-right, div-eq-of-lt, mod-eq-of-lt, add-zero}
 use native.Mathlib.Numerals.{add-one}
 use native.Mathlib.Omega.{arith}
 use borrow.Author.Tests.{ltb-true, ltb-false}
@@ -86,7 +87,9 @@ module _ {A : Type 0} (d : A) where
   pub filled-on : (i k : ℕ) (f : ℕ → A) (xs : List A) → i ≤ k → k ≤ length xs
       → ((j : ℕ) → i ≤ j → j < k → f j ≡ getD xs j d) → filled i f xs ≡ filled k f xs
   filled-on i k f xs h l e =
-      ext-getD d (filled i f xs) (filled k f xs) (length-filled i f xs (omega arith) ∙ sym (length-filled k f xs l)) (λ j b. cell j (lt-or-le j i) (lt-or-le j k))
+      ext-getD d (filled i f xs) (filled k f xs)
+      (length-filled i f xs (omega arith) ∙ sym (length-filled k f xs l))
+      (λ j b. cell j (lt-or-le j i) (lt-or-le j k))
     where
       cell : (j : ℕ) → (j < i) ⊎ (i ≤ j) → (j < k) ⊎ (k ≤ j) → getD (filled i f xs) j d ≡ getD (filled k f xs) j d
       cell j (inl a) b = filled-at i f xs j a ∙ sym (filled-at k f xs j (omega arith))

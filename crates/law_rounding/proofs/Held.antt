@@ -3,7 +3,8 @@
 use mathlib.Core.Path.{_≡_, refl, sym, ap, ap₂, _∙_, subst}
 use mathlib.Core.Logic.{inl, inr}
 use Prim.Native.Nat.{ℕ, zero, suc, _+_, _-_, _*_, _/_, _%_, _^_, _≤_, _<_}
-use native.Mathlib.Nat.{mul-one, one-mul, zero-mul, mul-assoc, mul-comm, mul-right-comm, mul-lt-mul-of-pos-right, lt-of-mul-lt-mul-right, eq-of-mul-eq-mul-right, not-le-of-lt, zero-lt-suc}
+use native.Mathlib.Nat.{mul-one, one-mul, zero-mul, mul-assoc, mul-comm, mul-right-comm, mul-lt-mul-of-pos-right}
+use native.Mathlib.Nat.{lt-of-mul-lt-mul-right, eq-of-mul-eq-mul-right, not-le-of-lt, zero-lt-suc}
 use native.Mathlib.Omega.{arith}
 use mathlib.Core.Bool.{Bool, not, cond, _&&_}
 use lib.IntN.{ℤ, pos, negsuc}
@@ -96,18 +97,25 @@ round-value f (fin t zero e) s a c p q (i, v) =
 round-value f (fin t (suc m) e) s a c p q (i, v) =
     let h = fits-held f t (suc m) e (zero-lt-suc m) q in
     let j = in-units e (low f) (h .lowest) in
-    let units : suc m * up e * 2 ^ low f ≡ suc m * 2 ^ (j .0) * down e = mul-assoc (suc m) (up e) (2 ^ low f) ∙ ap (λ (n : ℕ). suc m * n) (j .1) ∙ sym (mul-assoc (suc m) (2 ^ (j .0)) (down e)) in
+    let units : suc m * up e * 2 ^ low f ≡ suc m * 2 ^ (j .0) * down e =
+    mul-assoc (suc m) (up e) (2 ^ low f) ∙ ap (λ (n : ℕ). suc m * n) (j .1) ∙ sym (mul-assoc (suc m) (2 ^ (j .0)) (down e)) in
     round-exact f s a c (suc m) (j .0) p (h .digits)
     (lt-of-mul-lt-mul-right (down e)
-    (rw (← units, pow-add, mul-assoc (2 ^ low f) (2 ^ suc (emax f)) (down e), mul-comm (2 ^ low f) (2 ^ suc (emax f) * down e)) (mul-lt-mul-of-pos-right (h .range) (pow-pos (low f)))))
+    (rw (← units, pow-add, mul-assoc (2 ^ low f) (2 ^ suc (emax f)) (down e), mul-comm (2 ^ low f) (2 ^ suc (emax f) * down e))
+    (mul-lt-mul-of-pos-right (h .range) (pow-pos (low f)))))
     (eq-of-mul-eq-mul-right (down e) (down-pos e) (a * 2 ^ low f) (suc m * 2 ^ (j .0) * c)
-    (mul-right-comm a (2 ^ low f) (down e) ∙ ap (λ (n : ℕ). n * 2 ^ low f) (sym v) ∙ mul-right-comm (suc m * up e) c (2 ^ low f) ∙ ap (λ (n : ℕ). n * c) units ∙ mul-right-comm (suc m * 2 ^ (j .0)) (down e) c))
+    (mul-right-comm a (2 ^ low f) (down e)
+    ∙ ap (λ (n : ℕ). n * 2 ^ low f) (sym v)
+    ∙ mul-right-comm (suc m * up e) c (2 ^ low f)
+    ∙ ap (λ (n : ℕ). n * c) units
+    ∙ mul-right-comm (suc m * 2 ^ (j .0)) (down e) c))
 
 pub round-held : (f : Format) (x : Float) (s : Bool) (a c : ℕ) → 0 < c → T (fits f x) → HasValue x s a c → round f s a c ≡ x
 round-held f x s a c p q v = value-unique f (round f s a c) x s a c p (round-fits f s a c) q (round-value f x s a c p q v) v
 
 -- x − y where |y| is below |x|: if the format holds the difference z, it is the result
-pub difference-held : (f : Format) (x y z : Float) (s : Bool) (a b c : ℕ) → 0 < c → HasValue x s a c → HasValue y s b c → b < a → T (fits f z) → HasValue z s (a - b) c → sub f x y ≡ z
+pub difference-held : (f : Format) (x y z : Float) (s : Bool) (a b c : ℕ) → 0 < c → HasValue x s a c → HasValue y s b c → b < a
+    → T (fits f z) → HasValue z s (a - b) c → sub f x y ≡ z
 unfolding sub
 difference-held f x y z s a b c p v w l q u =
     add-values f x (neg y) s a (not s) b c p v (neg-value y s b c w) ∙ sum-more f s a b c l ∙ round-held f z s (a - b) c p q u

@@ -46,7 +46,8 @@ not-zero n h e = omega arith
 pub mul-number : (f : Format) (x y : Float) → isNan x ≡ false → T (positive y) → isNan (mul f x y) ≡ false
 unfolding mul isNan
 mul-number f nan y h k = h
-mul-number f (inf s) (fin false n d) h k = ap isNan (cond-no (eqb n 0) nan (inf (unlike s false)) (not-T (eqb n 0) (λ e. not-zero n (ltb→lt 0 n k) (eqb→eq n 0 e))))
+mul-number f (inf s) (fin false n d) h k =
+    ap isNan (cond-no (eqb n 0) nan (inf (unlike s false)) (not-T (eqb n 0) (λ e. not-zero n (ltb→lt 0 n k) (eqb→eq n 0 e))))
 mul-number f (fin s m e) (fin false n d) h k = round-number f _ _ _
 
 -- ---- comparisons

@@ -3,7 +3,9 @@
 use mathlib.Core.Path.{_≡_, refl, sym, ap, ap₂, _∙_, subst}
 use mathlib.Core.Logic.{_⊎_, inl, inr}
 use Prim.Native.Nat.{ℕ, suc, _+_, _-_, _*_, _/_, _%_, _^_, _≤_, _<_, min}
-use native.Mathlib.Nat.{le-trans, le-of-eq, le-antisymm, lt-of-lt-of-le, lt-of-le-of-lt, lt-irrefl, lt-of-not-le, mul-comm, suc-mul, mul-le-mul-right, mul-div-cancel, add-assoc, add-mul, mul-le-mul, lt-of-mul-lt-mul-right, add-mod-left, mod-eq-of-lt, zero-add, min-eq-left, min-eq-right}
+use native.Mathlib.Nat.{le-trans, le-of-eq, le-antisymm, lt-of-lt-of-le, lt-of-le-of-lt, lt-irrefl, lt-of-not-le}
+use native.Mathlib.Nat.{mul-comm, suc-mul, mul-le-mul-right, mul-div-cancel, add-assoc, add-mul, mul-le-mul}
+use native.Mathlib.Nat.{lt-of-mul-lt-mul-right, add-mod-left, mod-eq-of-lt, zero-add, min-eq-left, min-eq-right}
 use native.Mathlib.Omega.{arith}
 use mathlib.Core.Bool.{Bool, true, false, not, cond}
 use lib.Dec.{T, lit<, ltb}
@@ -60,7 +62,8 @@ written p q k P (le, or) = elim (less-or-not q (2 ^ p)) [
     drops (inl e) l = none (size n) p (size-le n (p + 0) (subst (λ (x : ℕ). q * 2 ^ k < 2 ^ (p + x)) e (shl-lt p k l))) ∙ sym e
     drops (inr g) l =
         ap (λ (x : ℕ). x - p)
-        (size-is (p - 1 + k) n (le-trans (le-of-eq (pow-add 2 (p - 1) k)) (mul-le-mul-right (2 ^ k) g)) (subst (λ (x : ℕ). n < 2 ^ x) (longer p k P) (shl-lt p k l)))
+        (size-is (p - 1 + k) n (le-trans (le-of-eq (pow-add 2 (p - 1) k)) (mul-le-mul-right (2 ^ k) g))
+        (subst (λ (x : ℕ). n < 2 ^ x) (longer p k P) (shl-lt p k l)))
         ∙ some p k P
 
     halves : n ≡ 2 ^ (p - 1) * 2 ^ suc k → n / 2 ^ suc k ≡ 2 ^ (p - 1)
@@ -77,7 +80,8 @@ written p q k P (le, or) = elim (less-or-not q (2 ^ p)) [
 
     full : q ≡ 2 ^ p → size n - p ≡ suc k
     full e =
-        ap (λ (x : ℕ). x - p) (size-is (p + k) n (le-of-eq (sym (is-power e))) (subst (λ (x : ℕ). x < 2 ^ suc (p + k)) (sym (is-power e)) (pow-lt (le-of-eq refl))))
+        ap (λ (x : ℕ). x - p)
+        (size-is (p + k) n (le-of-eq (sym (is-power e))) (subst (λ (x : ℕ). x < 2 ^ suc (p + k)) (sym (is-power e)) (pow-lt (le-of-eq refl))))
         ∙ spare p k
 
     regroup : (a h b q : ℕ) → q ≡ h + h → b ≡ a + h → b + h ≡ a + q
@@ -140,7 +144,9 @@ module _ (p e q k : ℕ) (P : 2 ≤ p) (R : p ≤ suc e) (d : Digits p q k) wher
   reaches-not : q * 2 ^ k < 2 ^ (e + p - 2 + suc e) → k * 2 ^ (p - 1) + q ≤ (2 * e + 1) * 2 ^ (p - 1)
   reaches-not l = elim (less-or-not ((2 * e + 1) * 2 ^ (p - 1)) (k * 2 ^ (p - 1) + q)) [
     | inr g ↦ g
-    | inl g ↦ absurd (lt-irrefl (q * 2 ^ k) (lt-of-lt-of-le l (below (few (lt-of-mul-lt-mul-right (2 ^ (p - 1)) (room (2 ^ (p - 1)) (2 ^ p) g (d .0) two-digits))))))
+    | inl g ↦
+        let more : 2 * e + 1 < k + 2 = lt-of-mul-lt-mul-right (2 ^ (p - 1)) (room (2 ^ (p - 1)) (2 ^ p) g (d .0) two-digits) in
+        absurd (lt-irrefl (q * 2 ^ k) (lt-of-lt-of-le l (below (few more))))
   ]
     where
       room : (h w : ℕ) → (2 * e + 1) * h < k * h + q → q ≤ w → w ≡ h + h → (2 * e + 1) * h < (k + 2) * h
@@ -174,7 +180,10 @@ module _ (p e q k : ℕ) (P : 2 ≤ p) (R : p ≤ suc e) (d : Digits p q k) wher
           omega (arith, t, u, a, b)
 
       full : (suc k < 2 * e) ⊎ (2 * e ≤ suc k) → q ≡ 2 ^ p → (2 * e + 1) * 2 ^ (p - 1) ≤ k * 2 ^ (p - 1) + q
-      full (inl m) w = absurd (lt-irrefl (q * 2 ^ k) (lt-of-lt-of-le (subst (λ (x : ℕ). x < 2 ^ (e + p - 2 + suc e)) (pow-add 2 p k ∙ ap (λ (x : ℕ). x * 2 ^ k) (sym w)) (pow-lt (two-less m))) l))
+      full (inl m) w =
+          let less : q * 2 ^ k < 2 ^ (e + p - 2 + suc e) =
+          subst (λ (x : ℕ). x < 2 ^ (e + p - 2 + suc e)) (pow-add 2 p k ∙ ap (λ (x : ℕ). x * 2 ^ k) (sym w)) (pow-lt (two-less m)) in
+          absurd (lt-irrefl (q * 2 ^ k) (lt-of-lt-of-le less l))
       full (inr m) w = last (2 ^ (p - 1)) (2 ^ p) m w two-digits
 
 -- q * 2 ^ k of the smallest values, or the infinity
@@ -191,7 +200,9 @@ units-bits f s q k h d = elim (less-or-not (q * 2 ^ k) (2 ^ (low f + suc (emax f
 ]
   where
     overflowed : (f : Format) (s : Bool) (q k : ℕ) → 2 ^ (low f + suc (emax f)) ≤ q * 2 ^ k → units f s q k ≡ inf s
-    overflowed f s q k g = unfold units in cond-no (ltb (q * 2 ^ k) (2 ^ (low f + suc (emax f)))) (odd (suc (prec f)) s q k (low f)) (inf s) (le→nltb (q * 2 ^ k) (2 ^ (low f + suc (emax f))) g)
+    overflowed f s q k g =
+        let end = 2 ^ (low f + suc (emax f)) in
+        unfold units in cond-no (ltb (q * 2 ^ k) end) (odd (suc (prec f)) s q k (low f)) (inf s) (le→nltb (q * 2 ^ k) end g)
 
 -- no pattern up to the infinity's is a NaN's
 pub no-nan : (f : Format) (s : Bool) (b : ℕ) → b ≤ ones f * hid f → T (not (nanBits f (cond s (top f) 0 + b)))

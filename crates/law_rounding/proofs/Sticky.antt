@@ -2,7 +2,9 @@
 use mathlib.Core.Path.{_≡_, sym, ap, ap₂, _∙_, subst}
 use mathlib.Core.Logic.{_⊎_, inl, inr}
 use Prim.Native.Nat.{ℕ, suc, _+_, _-_, _*_, _/_, _%_, _≤_, _<_, compare}
-use native.Mathlib.Nat.{le-trans, le-of-eq, lt-of-lt-of-le, lt-of-le-of-lt, add-mul, suc-mul, mul-assoc, mul-comm, mul-right-comm, mul-left-comm, mul-pos, mul-one, mul-le-mul-left, mul-le-mul-right, mul-lt-mul-of-pos-right, div-add-mod', le-of-lt, mod-lt, mul-mod-left, eq-zero-or-pos}
+use native.Mathlib.Nat.{le-trans, le-of-eq, lt-of-lt-of-le, lt-of-le-of-lt, add-mul, suc-mul, mul-assoc, mul-comm}
+use native.Mathlib.Nat.{mul-right-comm, mul-left-comm, mul-pos, mul-one, mul-le-mul-left, mul-le-mul-right}
+use native.Mathlib.Nat.{mul-lt-mul-of-pos-right, div-add-mod', le-of-lt, mod-lt, mul-mod-left, eq-zero-or-pos}
 use native.Mathlib.Omega.{arith}
 use lib.Dec.{lit<}
 use lib.Ieee.{nearest}
@@ -93,7 +95,11 @@ sticky-again v w x y z p q (inl g) (inl h) = inl (g ∙ ap (λ (a : ℕ). a * v)
 sticky-again v w x y z p q (inl g) (inr (o, l, u)) =
     let l′ : (z - 1) * w * v < y * v = mul-lt-mul-of-pos-right l p in
     let u′ : y * v < suc z * w * v = mul-lt-mul-of-pos-right u p in
-    inr (o, subst (λ (a : ℕ). (z - 1) * (w * v) < a) (sym g) (rw (mul-assoc (z - 1) w v) at l′), subst (λ (a : ℕ). a < suc z * (w * v)) (sym g) (rw (mul-assoc (suc z) w v) at u′))
+    inr (
+      o,
+      subst (λ (a : ℕ). (z - 1) * (w * v) < a) (sym g) (rw (mul-assoc (z - 1) w v) at l′),
+      subst (λ (a : ℕ). a < suc z * (w * v)) (sym g) (rw (mul-assoc (suc z) w v) at u′),
+    )
 sticky-again v w x y z p q (inr (o, l, u)) h = inr (odd h, lower h, upper h)
   where
     even-even : (a : ℕ) → z % 2 ≡ 0 → a ≡ z * w → a % 2 ≡ 0
@@ -166,10 +172,13 @@ closest-sticky v x y u p q (inr (o, l, h)) =
     (le-of-lt (lt-of-le-of-lt (le-trans (le-of-eq (sym (mul-assoc a m v))) (mul-le-mul-right v (under (a * m) r y d odd))) l))
     (lt-of-lt-of-le h (le-trans (mul-le-mul-right v (over (a * m) r m y d r-lt (suc-mul a m))) (le-of-eq (mul-assoc (suc a) m v)))) in
     let rest : a * (m * v) + x % (m * v) ≡ x = subst (λ (b : ℕ). b * (m * v) + x % (m * v) ≡ x) whole (div-add-mod' x (m * v)) in
+    let parts : a * m * v + x % (m * v) ≡ x = ap (λ (b : ℕ). b + x % (m * v)) (mul-assoc a m v) ∙ rest in
     let same : compare (x % (m * v) * 2) (m * v) ≡ compare (r * 2) m =
     orders r u (x % (m * v)) odd
-    (part-low (a * m * v) ((r - 1) * v) ((y - 1) * v) x (x % (m * v)) (ap (λ (b : ℕ). b + x % (m * v)) (mul-assoc a m v) ∙ rest) (ap (λ (b : ℕ). b * v) (shift-low (a * m) r y d odd) ∙ add-mul (a * m) (r - 1) v) l)
-    (part-high (a * m * v) (suc r * v) (suc y * v) x (x % (m * v)) (ap (λ (b : ℕ). b + x % (m * v)) (mul-assoc a m v) ∙ rest) (ap (λ (b : ℕ). b * v) (shift-high (a * m) r y d) ∙ add-mul (a * m) (suc r) v) h) in
+    (part-low (a * m * v) ((r - 1) * v) ((y - 1) * v) x (x % (m * v)) parts
+    (ap (λ (b : ℕ). b * v) (shift-low (a * m) r y d odd) ∙ add-mul (a * m) (r - 1) v) l)
+    (part-high (a * m * v) (suc r * v) (suc y * v) x (x % (m * v)) parts
+    (ap (λ (b : ℕ). b * v) (shift-high (a * m) r y d) ∙ add-mul (a * m) (suc r) v) h) in
     ap₂ nearest whole same
   where
     four : (a u : ℕ) → a * (4 * u) ≡ 2 * (a * u * 2)

@@ -51,12 +51,15 @@ unfolding sum
 sum-is f s a t b c = refl
 
 -- equal fractions have equal sums
-pub sum-same : (f : Format) (s : Bool) (a : ℕ) (t : Bool) (b c a′ b′ c′ : ℕ) → 0 < c → 0 < c′ → a * c′ ≡ a′ * c → b * c′ ≡ b′ * c → sum f s a t b c ≡ sum f s a′ t b′ c′
+pub sum-same : (f : Format) (s : Bool) (a : ℕ) (t : Bool) (b c a′ b′ c′ : ℕ) → 0 < c → 0 < c′ → a * c′ ≡ a′ * c → b * c′ ≡ b′ * c
+    → sum f s a t b c ≡ sum f s a′ t b′ c′
 sum-same f s a t b c a′ b′ c′ p p′ x y =
     sum-is f s a t b c
     ∙ ap₂ (cond (Bool·beq s t)) (round-same f s (a + b) c (a′ + b′) c′ p p′ (add-mul a b c′ ∙ ap₂ (λ (m n : ℕ). m + n) x y ∙ sym (add-mul a′ b′ c)))
     (ap₂ (λ (u v : Bool). cond u (round f t (b - a) c) (round f (s && v) (a - b) c)) (order a b a′ b′ x y) (order b a b′ a′ y x)
-    ∙ ap₂ (cond (ltb a′ b′)) (round-same f t (b - a) c (b′ - a′) c′ p p′ (difference b a b′ a′ y x)) (round-same f (s && ltb b′ a′) (a - b) c (a′ - b′) c′ p p′ (difference a b a′ b′ x y)))
+    ∙ ap₂ (cond (ltb a′ b′))
+    (round-same f t (b - a) c (b′ - a′) c′ p p′ (difference b a b′ a′ y x))
+    (round-same f (s && ltb b′ a′) (a - b) c (a′ - b′) c′ p p′ (difference a b a′ b′ x y)))
     ∙ sym (sum-is f s a′ t b′ c′)
   where
     crossed : (a b a′ b′ c c′ : ℕ) → 0 < c′ → a * c′ ≡ a′ * c → b * c′ ≡ b′ * c → a < b → a′ < b′
@@ -64,7 +67,9 @@ sum-same f s a t b c a′ b′ c′ p p′ x y =
 
     order : (a b a′ b′ : ℕ) → a * c′ ≡ a′ * c → b * c′ ≡ b′ * c → ltb a b ≡ ltb a′ b′
     order a b a′ b′ x y =
-        same-test (ltb a b) (ltb a′ b′) (λ h. lt→ltb a′ b′ (crossed a b a′ b′ c c′ p′ x y (ltb→lt a b h))) (λ h. lt→ltb a b (crossed a′ b′ a b c′ c p (sym x) (sym y) (ltb→lt a′ b′ h)))
+        same-test (ltb a b) (ltb a′ b′)
+        (λ h. lt→ltb a′ b′ (crossed a b a′ b′ c c′ p′ x y (ltb→lt a b h)))
+        (λ h. lt→ltb a b (crossed a′ b′ a b c′ c p (sym x) (sym y) (ltb→lt a′ b′ h)))
 
     difference : (a b a′ b′ : ℕ) → a * c′ ≡ a′ * c → b * c′ ≡ b′ * c → (a - b) * c′ ≡ (a′ - b′) * c
     difference a b a′ b′ x y = sub-mul a b c′ ∙ ap₂ (λ (m n : ℕ). m - n) x y ∙ sym (sub-mul a′ b′ c)
@@ -83,11 +88,15 @@ apart f false a b c = sum-is f false a true b c
 pub sum-more : (f : Format) (s : Bool) (a b c : ℕ) → b < a → sum f s a (not s) b c ≡ round f s (a - b) c
 sum-more f s a b c l =
     apart f s a b c
-    ∙ ap₂ (λ (u v : Bool). cond u (round f (not s) (b - a) c) (round f (s && v) (a - b) c)) (is-false (ltb a b) (le→nltb a b (le-of-lt l))) (is-true (ltb b a) (lt→ltb b a l))
+    ∙ ap₂ (λ (u v : Bool). cond u (round f (not s) (b - a) c) (round f (s && v) (a - b) c))
+    (is-false (ltb a b) (le→nltb a b (le-of-lt l)))
+    (is-true (ltb b a) (lt→ltb b a l))
     ∙ ap (λ (v : Bool). round f v (a - b) c) (and-true s)
 
 pub sum-less : (f : Format) (s : Bool) (a b c : ℕ) → a < b → sum f s a (not s) b c ≡ round f (not s) (b - a) c
-sum-less f s a b c l = apart f s a b c ∙ ap (λ (u : Bool). cond u (round f (not s) (b - a) c) (round f (s && ltb b a) (a - b) c)) (is-true (ltb a b) (lt→ltb a b l))
+sum-less f s a b c l =
+    apart f s a b c
+    ∙ ap (λ (u : Bool). cond u (round f (not s) (b - a) c) (round f (s && ltb b a) (a - b) c)) (is-true (ltb a b) (lt→ltb a b l))
 
 pub sum-none : (f : Format) (s : Bool) (a c : ℕ) → sum f s a (not s) a c ≡ round f false 0 c
 sum-none f s a c =
@@ -109,7 +118,10 @@ sum-swap f s a t b c = by-signs (λ (s t : Bool). sum f s a t b c ≡ sum f t b 
         | inl l ↦ sum-more f s a b c l ∙ ap (λ (v : Bool). round f v (a - b) c) (sym (not-not s)) ∙ sym (sum-less f (not s) b a c l)
         | inr h ↦
             let e : a ≡ b = le-antisymm h g in
-            ap (λ (x : ℕ). sum f s x (not s) b c) e ∙ sum-none f s b c ∙ sym (sum-none f (not s) b c) ∙ ap (λ (x : ℕ). sum f (not s) b (not (not s)) x c) (sym e)
+            ap (λ (x : ℕ). sum f s x (not s) b c) e
+            ∙ sum-none f s b c
+            ∙ sym (sum-none f (not s) b c)
+            ∙ ap (λ (x : ℕ). sum f (not s) b (not (not s)) x c) (sym e)
       ]
     ]
 

@@ -2,16 +2,18 @@
 -- sum of any fractions that the values equal. So x − x is 0 exactly where x is finite: `finite-test`. Assumes nothing.
 use mathlib.Core.Path.{_≡_, refl, sym, ap, ap₂, _∙_, subst}
 use Prim.Native.Nat.{ℕ, zero, suc, _+_, _-_, _*_, _/_, _%_, _^_, _≤_, _<_, compare, compare·zero-zero, compare·zero-suc}
-use native.Mathlib.Nat.{zero-mul, mul-one, one-mul, mul-comm, mul-assoc, mul-right-comm, mul-pos, zero-div, zero-mod, mod-lt, div-lt-iff-lt-mul, zero-lt-suc, le-of-suc-le-suc, mul-mul-mul-comm}
+use native.Mathlib.Nat.{zero-mul, mul-one, one-mul, mul-comm, mul-assoc, mul-right-comm, mul-pos, zero-div}
+use native.Mathlib.Nat.{zero-mod, mod-lt, div-lt-iff-lt-mul, zero-lt-suc, le-of-suc-le-suc, mul-mul-mul-comm}
 use native.Mathlib.Omega.{arith}
 use mathlib.Core.Bool.{Bool, true, false, not, cond}
 use lib.IntN.{ℤ, pos, negsuc, _+ℤ_, subℕ}
 use lib.Dec.{T, leb, ltb, eqb, ltb→lt, nltb→le, not-T, eqb→eq}
 use lib.Arith.{lt-of-le-ne}
 use lib.Pow.{pow-add, pow-pos}
-use lib.Ieee.{Float, nan, inf, fin, Format, binary32, binary64, prec, emax, low, unlike, up, down, size, nearest, odd, units, round, neg, sum, add, sub, mul, eq, hid, ones, top, ofFields, ofBits}
+use lib.Ieee.{Float, nan, inf, fin, Format, binary32, binary64, prec, emax, low, unlike, up, down, size}
+use lib.Ieee.{nearest, odd, units, round, neg, sum, add, sub, mul, eq, hid, ones, top, ofFields, ofBits}
 use lib.Ieee.Digits.{size-le}
-use lib.Ieee.Fits.{round-is, down-pos, eq→eqb}
+use lib.Ieee.Fits.{core, round-is, down-pos, eq→eqb}
 use lib.Ieee.Bits.{cond-no}
 use lib.Ieee.Exact.{HasValue, odd-sign, round-exact}
 use lib.Ieee.Scale.{round-same, finite}
@@ -28,8 +30,8 @@ units-zero binary64 s = refl
 pub round-zero : (f : Format) (s : Bool) (c : ℕ) → round f s 0 c ≡ fin s 0 (pos 0)
 round-zero f s c =
     round-is f s 0 c
-    ∙ ap (λ (n : ℕ). units f s (nearest (n / (c * 2 ^ (size (n / c) - prec f))) (compare (n % (c * 2 ^ (size (n / c) - prec f)) * 2) (c * 2 ^ (size (n / c) - prec f)))) (size (n / c) - prec f)) (zero-mul (2 ^ low f))
-    ∙ ap (λ (k : ℕ). units f s (nearest (0 / (c * 2 ^ k)) (compare (0 % (c * 2 ^ k) * 2) (c * 2 ^ k))) k) none
+    ∙ ap (λ (n : ℕ). core f s n c (size (n / c) - prec f)) (zero-mul (2 ^ low f))
+    ∙ ap (core f s 0 c) none
     ∙ ap₂ (λ (a b : ℕ). units f s (nearest a (compare (b * 2) (c * 1))) 0) (zero-div (c * 1)) (zero-mod (c * 1))
     ∙ ap (λ (a : ℕ). units f s a 0) (stays (c * 1))
     ∙ units-zero f s
@@ -47,7 +49,10 @@ round-zero f s c =
 -- ---- the number of a bit pattern
 
 field-in : (f : Format) (b : ℕ) → b % top f / hid f < suc (ones f)
-field-in f b = div-lt-iff-lt-mul (pow-pos (prec f - 1)) .1 (subst (λ (a : ℕ). b % top f < a) (mul-comm (hid f) (suc (ones f))) (mod-lt b (mul-pos (pow-pos (prec f - 1)) (zero-lt-suc (ones f)))))
+field-in f b =
+    div-lt-iff-lt-mul (pow-pos (prec f - 1)) .1
+    (subst (λ (a : ℕ). b % top f < a) (mul-comm (hid f) (suc (ones f)))
+    (mod-lt b (mul-pos (pow-pos (prec f - 1)) (zero-lt-suc (ones f)))))
 
 ones-end : (f : Format) (s : Bool) (x t : ℕ) → x ≡ ones f → T (finite (ofFields f s x t)) → ⊥
 unfolding ofFields
@@ -72,7 +77,8 @@ unfolding ofFields weight
 fields-value f s zero t h = subst (λ (a : ℕ). HasValue (odd (prec f) s t 0 (low f)) s a (2 ^ low f)) (mul-one t) (odd-sign (prec f) s t 0 (low f))
 fields-value f s (suc x) t h =
     subst (λ (v : Float). HasValue v s ((hid f + t) * 2 ^ x) (2 ^ low f))
-    (sym (cond-no (eqb (suc x) (ones f)) (cond (eqb t 0) (inf s) nan) (odd (prec f) s (hid f + t) x (low f)) (not-T (eqb (suc x) (ones f)) (λ e. unequal (suc x) (ones f) h (eqb→eq (suc x) (ones f) e)))))
+    (sym (cond-no (eqb (suc x) (ones f)) (cond (eqb t 0) (inf s) nan) (odd (prec f) s (hid f + t) x (low f))
+    (not-T (eqb (suc x) (ones f)) (λ e. unequal (suc x) (ones f) h (eqb→eq (suc x) (ones f) e)))))
     (odd-sign (prec f) s (hid f + t) x (low f))
   where
     unequal : (a b : ℕ) → a < b → a ≡ b → ⊥
@@ -98,7 +104,8 @@ weight-more f (suc x) t h = ap (λ (k : ℕ). (hid f + t) * 2 ^ k) (pred x)
     pred : (x : ℕ) → suc x - 1 ≡ x
     pred x = omega arith
 
-pub bits-value : (f : Format) (b : ℕ) → b % top f / hid f < ones f → HasValue (ofBits f b) (leb (top f) b) (weight f (b % top f / hid f) (b % hid f)) (2 ^ low f)
+pub bits-value : (f : Format) (b : ℕ) → b % top f / hid f < ones f
+    → HasValue (ofBits f b) (leb (top f) b) (weight f (b % top f / hid f) (b % hid f)) (2 ^ low f)
 unfolding ofBits
 bits-value f b h = fields-value f (leb (top f) b) (b % top f / hid f) (b % hid f) h
 
@@ -122,8 +129,14 @@ sub-power a b = go (ltb a b) (ltb→lt a b) (nltb→le a b)
 -- 2 ^ (e + d) is 2 ^ e * 2 ^ d
 pub power-add : (e d : ℤ) → up (e +ℤ d) * (down e * down d) ≡ up e * up d * down (e +ℤ d)
 power-add (pos a) (pos b) = ap (λ (x : ℕ). x * 1) (pow-add 2 a b)
-power-add (pos a) (negsuc b) = ap (λ (x : ℕ). up (subℕ a (suc b)) * x) (one-mul (2 ^ suc b)) ∙ sub-power a (suc b) ∙ ap (λ (x : ℕ). x * down (subℕ a (suc b))) (sym (mul-one (2 ^ a)))
-power-add (negsuc a) (pos b) = ap (λ (x : ℕ). up (subℕ b (suc a)) * x) (mul-one (2 ^ suc a)) ∙ sub-power b (suc a) ∙ ap (λ (x : ℕ). x * down (subℕ b (suc a))) (sym (one-mul (2 ^ b)))
+power-add (pos a) (negsuc b) =
+    ap (λ (x : ℕ). up (subℕ a (suc b)) * x) (one-mul (2 ^ suc b))
+    ∙ sub-power a (suc b)
+    ∙ ap (λ (x : ℕ). x * down (subℕ a (suc b))) (sym (mul-one (2 ^ a)))
+power-add (negsuc a) (pos b) =
+    ap (λ (x : ℕ). up (subℕ b (suc a)) * x) (mul-one (2 ^ suc a))
+    ∙ sub-power b (suc a)
+    ∙ ap (λ (x : ℕ). x * down (subℕ b (suc a))) (sym (one-mul (2 ^ b)))
 power-add (negsuc a) (negsuc b) = ap (λ (x : ℕ). 1 * x) (sym (pow-add 2 (suc a) (suc b)) ∙ ap (λ (x : ℕ). 2 ^ x) (twice a b))
   where
     twice : (a b : ℕ) → suc a + suc b ≡ suc (suc (a + b))
@@ -172,15 +185,17 @@ mul-values f (fin u m e) (fin r n z) s a c t b d p q (i, v) (j, w) =
 pub round-shift : (f : Format) (s : Bool) (x v a b c d : ℕ) → 0 < v → a + d ≡ c + b → round f s (x * 2 ^ a) (v * 2 ^ b) ≡ round f s (x * 2 ^ c) (v * 2 ^ d)
 round-shift f s x v a b c d p e =
     round-same f s (x * 2 ^ a) (v * 2 ^ b) (x * 2 ^ c) (v * 2 ^ d) (mul-pos p (pow-pos b)) (mul-pos p (pow-pos d))
-    (mul-mul-mul-comm x (2 ^ a) v (2 ^ d) ∙ ap (λ (n : ℕ). x * v * n) (sym (pow-add 2 a d) ∙ ap (λ (n : ℕ). 2 ^ n) e ∙ pow-add 2 c b) ∙ sym (mul-mul-mul-comm x (2 ^ c) v (2 ^ b)))
+    (mul-mul-mul-comm x (2 ^ a) v (2 ^ d)
+    ∙ ap (λ (n : ℕ). x * v * n) (sym (pow-add 2 a d) ∙ ap (λ (n : ℕ). 2 ^ n) e ∙ pow-add 2 c b)
+    ∙ sym (mul-mul-mul-comm x (2 ^ c) v (2 ^ b)))
 
 pub round-move : (f : Format) (s : Bool) (x a b c d : ℕ) → a + d ≡ c + b → round f s (x * 2 ^ a) (2 ^ b) ≡ round f s (x * 2 ^ c) (2 ^ d)
 round-move f s x a b c d e =
     ap (round f s (x * 2 ^ a)) (sym (one-mul (2 ^ b))) ∙ round-shift f s x 1 a b c d (zero-lt-suc 0) e ∙ ap (round f s (x * 2 ^ c)) (one-mul (2 ^ d))
 
 -- A whole number of the format's digits times a power of two that the format holds is exact.
-pub power-times : (f : Format) (u p : Float) (t s : Bool) (h k : ℕ) → h < 2 ^ prec f → h * 2 ^ k < 2 ^ (low f + suc (emax f)) → HasValue u t h 1 → HasValue p s (2 ^ k) (2 ^ low f)
-    → HasValue (mul f u p) (unlike t s) (h * 2 ^ k) (2 ^ low f)
+pub power-times : (f : Format) (u p : Float) (t s : Bool) (h k : ℕ) → h < 2 ^ prec f → h * 2 ^ k < 2 ^ (low f + suc (emax f))
+    → HasValue u t h 1 → HasValue p s (2 ^ k) (2 ^ low f) → HasValue (mul f u p) (unlike t s) (h * 2 ^ k) (2 ^ low f)
 power-times f u p t s h k l o v w =
     subst (λ (x : Float). HasValue x (unlike t s) (h * 2 ^ k) (2 ^ low f))
     (sym (mul-values f u p t h 1 s (2 ^ k) (2 ^ low f) (zero-lt-suc 0) (pow-pos (low f)) v w ∙ ap (round f (unlike t s) (h * 2 ^ k)) (one-mul (2 ^ low f))))

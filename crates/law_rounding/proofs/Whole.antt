@@ -75,7 +75,9 @@ module _ (f : Format) where
 
   sum-whole : (s : Bool) (a : ℕ) (t : Bool) (b : ℕ) → natAbs (signed s a +ℤ signed t b) ≤ 2 ^ prec f
       → HasWhole (sum f s a t b 1) (signed s a +ℤ signed t b)
-  sum-whole s a t b = by-signs (λ (s t : Bool). natAbs (signed s a +ℤ signed t b) ≤ 2 ^ prec f → HasWhole (sum f s a t b 1) (signed s a +ℤ signed t b)) like other s t
+  sum-whole s a t b =
+      by-signs (λ (s t : Bool). natAbs (signed s a +ℤ signed t b) ≤ 2 ^ prec f → HasWhole (sum f s a t b 1) (signed s a +ℤ signed t b))
+      like other s t
     where
       like : (s : Bool) → natAbs (signed s a +ℤ signed s b) ≤ 2 ^ prec f → HasWhole (sum f s a s b 1) (signed s a +ℤ signed s b)
       like s = rounded s (a + b) _ _ (sum-like f s a b 1) (signed-add s a b)

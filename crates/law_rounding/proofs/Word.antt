@@ -2,7 +2,9 @@
 use mathlib.Core.Path.{_≡_, sym, ap, ap₂, _∙_, subst, subst₂}
 use mathlib.Core.Logic.{_⊎_, inl, inr}
 use Prim.Native.Nat.{ℕ, suc, _+_, _-_, _*_, _/_, _%_, _^_, _≤_, _<_, compare, min}
-use native.Mathlib.Nat.{le-trans, le-of-eq, lt-of-lt-of-le, lt-irrefl, lt-of-not-le, mul-comm, mul-assoc, mul-left-comm, mul-pos, mul-le-mul-right, mul-lt-mul-of-pos-right, div-lt-iff-lt-mul, le-div-iff-mul-le, one-mul, mul-one, zero-lt-suc, add-comm, le-add-right, le-add-left, le-of-lt}
+use native.Mathlib.Nat.{le-trans, le-of-eq, lt-of-lt-of-le, lt-irrefl, lt-of-not-le, mul-comm, mul-assoc}
+use native.Mathlib.Nat.{mul-left-comm, mul-pos, mul-le-mul-right, mul-lt-mul-of-pos-right, div-lt-iff-lt-mul, le-div-iff-mul-le}
+use native.Mathlib.Nat.{one-mul, mul-one, zero-lt-suc, add-comm, le-add-right, le-add-left, le-of-lt}
 use native.Mathlib.Omega.{arith}
 use mathlib.Core.Bool.{Bool, not, cond}
 use lib.Dec.{T}
@@ -40,7 +42,10 @@ module _ (f : Format) (s : Bool) (v x w g h k d : ℕ) (v-pos : 0 < v) (two-drop
 
   -- a bound t * 2 ^ d of w is a bound t * 2 ^ k of the fraction in smallest values
   bound : (t : ℕ) → t * 2 ^ d * v * 2 ^ (g + low f) ≡ t * 2 ^ k * den
-  bound t = sort t (2 ^ d) v (2 ^ (g + low f)) ∙ ap (λ (a : ℕ). t * (v * a)) (sym (pow-add 2 (g + low f) d) ∙ ap (λ (a : ℕ). 2 ^ a) scale ∙ pow-add 2 h k) ∙ sort′ t v (2 ^ h) (2 ^ k)
+  bound t =
+      sort t (2 ^ d) v (2 ^ (g + low f))
+      ∙ ap (λ (a : ℕ). t * (v * a)) (sym (pow-add 2 (g + low f) d) ∙ ap (λ (a : ℕ). 2 ^ a) scale ∙ pow-add 2 h k)
+      ∙ sort′ t v (2 ^ h) (2 ^ k)
     where
       sort : (t d v g : ℕ) → t * d * v * g ≡ t * (v * (g * d))
       sort t d v g = simp (mul-assoc, mul-comm, mul-left-comm)
@@ -48,18 +53,25 @@ module _ (f : Format) (s : Bool) (v x w g h k d : ℕ) (v-pos : 0 < v) (two-drop
       sort′ : (t v h k : ℕ) → t * (v * (h * k)) ≡ t * k * (v * h)
       sort′ t v h k = simp (mul-assoc, mul-comm, mul-left-comm)
 
+  -- the same of a power of two
+  bound-power : (p : ℕ) → 2 ^ (p + d) * v * 2 ^ (g + low f) ≡ 2 ^ (p + k) * den
+  bound-power p =
+      ap (λ (a : ℕ). a * v * 2 ^ (g + low f)) (pow-add 2 p d) ∙ bound (2 ^ p) ∙ ap (λ (a : ℕ). a * den) (sym (pow-add 2 p k))
+
   below : n / den < 2 ^ (prec f + k)
   below =
       div-lt-iff-lt-mul den-pos .1
-      (subst (λ (a : ℕ). n < a) (ap (λ (a : ℕ). a * v * 2 ^ (g + low f)) (pow-add 2 (prec f) d) ∙ bound (2 ^ prec f) ∙ ap (λ (a : ℕ). a * den) (sym (pow-add 2 (prec f) k)))
+      (subst (λ (a : ℕ). n < a) (bound-power (prec f))
       (subst (λ (a : ℕ). a < 2 ^ (prec f + d) * v * 2 ^ (g + low f)) (sym n-is)
       (mul-lt-mul-of-pos-right (sticky-below v x w (2 ^ (prec f + d)) v-pos short sticky) (pow-pos (g + low f)))))
 
   above : 2 ^ (prec f - 1 + d) ≤ w → 2 ^ (prec f - 1 + k) ≤ n / den
   above l =
       le-div-iff-mul-le den-pos .1
-      (subst (λ (a : ℕ). a ≤ n) (ap (λ (a : ℕ). a * v * 2 ^ (g + low f)) (pow-add 2 (prec f - 1) d) ∙ bound (2 ^ (prec f - 1)) ∙ ap (λ (a : ℕ). a * den) (sym (pow-add 2 (prec f - 1) k)))
-      (le-trans (mul-le-mul-right (2 ^ (g + low f)) (sticky-above v x w (2 ^ (prec f - 1 + d)) (even-power (prec f - 1 + d) (omega arith)) l sticky)) (le-of-eq (sym n-is))))
+      (subst (λ (a : ℕ). a ≤ n) (bound-power (prec f - 1))
+      (le-trans
+      (mul-le-mul-right (2 ^ (g + low f)) (sticky-above v x w (2 ^ (prec f - 1 + d)) (even-power (prec f - 1 + d) (omega arith)) l sticky))
+      (le-of-eq (sym n-is))))
 
   drops : size (n / den) - prec f ≡ k
   drops = go long (size-le (n / den) (prec f + k) below)
@@ -74,7 +86,8 @@ module _ (f : Format) (s : Bool) (v x w g h k d : ℕ) (v-pos : 0 < v) (two-drop
       go (inl e) u = none (size (n / den)) (prec f) k e u
       go (inr l) u =
           some (size (n / den)) (prec f) k
-          (lt-of-not-le (λ (g′ : size (n / den) ≤ prec f - 1 + k). lt-irrefl (n / den) (lt-of-lt-of-le (size-lt (n / den)) (le-trans (pow-mono g′) (above l))))) u
+          (lt-of-not-le (λ (g′ : size (n / den) ≤ prec f - 1 + k).
+          lt-irrefl (n / den) (lt-of-lt-of-le (size-lt (n / den)) (le-trans (pow-mono g′) (above l))))) u
 
   digits : closest n (den * 2 ^ k) ≡ closest w (2 ^ d)
   digits =
@@ -82,7 +95,9 @@ module _ (f : Format) (s : Bool) (v x w g h k d : ℕ) (v-pos : 0 < v) (two-drop
       let four : 2 ^ d ≡ 4 * u = ap (λ (a : ℕ). 2 ^ a) (split d two-dropped) ∙ pow-add 2 2 (d - 2) in
       let u-pos : 0 < 4 * u = subst (λ (a : ℕ). 0 < a) four (pow-pos d) in
       closest-same n (den * 2 ^ k) x (4 * u * v) (mul-pos den-pos (pow-pos k)) (mul-pos u-pos v-pos)
-      (ap₂ (λ (a b : ℕ). a * (b * v)) n-is (sym four) ∙ sort x (2 ^ (g + low f)) (2 ^ d) v ∙ ap (λ (a : ℕ). x * a) (bound 1 ∙ ap (λ (a : ℕ). a * den) (one-mul (2 ^ k)) ∙ mul-comm (2 ^ k) den))
+      (ap₂ (λ (a b : ℕ). a * (b * v)) n-is (sym four)
+      ∙ sort x (2 ^ (g + low f)) (2 ^ d) v
+      ∙ ap (λ (a : ℕ). x * a) (bound 1 ∙ ap (λ (a : ℕ). a * den) (one-mul (2 ^ k)) ∙ mul-comm (2 ^ k) den))
       ∙ closest-sticky v x w u v-pos (pow-pos (d - 2)) sticky
       ∙ ap (closest w) (sym four)
     where
@@ -98,7 +113,9 @@ module _ (f : Format) (s : Bool) (v x w g h k d : ℕ) (v-pos : 0 < v) (two-drop
       go : (k ≡ 0) ⊎ (2 ^ (prec f - 1 + d) ≤ w) → (k ≡ 0) ⊎ (2 ^ (prec f - 1) ≤ closest w (2 ^ d))
       go (inl e) = inl e
       go (inr l) =
-          inr (le-trans (le-div-iff-mul-le (pow-pos d) .1 (le-trans (le-of-eq (sym (pow-add 2 (prec f - 1) d))) l)) (nearest-ge (w / 2 ^ d) (compare (w % 2 ^ d * 2) (2 ^ d))))
+          inr (le-trans
+          (le-div-iff-mul-le (pow-pos d) .1 (le-trans (le-of-eq (sym (pow-add 2 (prec f - 1) d))) l))
+          (nearest-ge (w / 2 ^ d) (compare (w % 2 ^ d * 2) (2 ^ d))))
 
   pub round-word : round f s (x * 2 ^ g) (v * 2 ^ h) ≡ ofBits f (cond s (top f) 0 + min (k * hid f + closest w (2 ^ d)) (ones f * hid f))
   round-word =
@@ -107,11 +124,13 @@ module _ (f : Format) (s : Bool) (v x w g h k d : ℕ) (v-pos : 0 < v) (two-drop
       is ∙ units-bits f s (closest w (2 ^ d)) k (subst (λ (y : Float). T (fits f y)) is (round-fits f s (x * 2 ^ g) den)) kept
 
 -- A sticky number of at least prec + 2 digits rounds as what it stands for.
-pub round-sticky : (f : Format) (s : Bool) (v x y g h : ℕ) → 0 < v → Sticky v x y → 2 ^ suc (prec f) ≤ y → h ≤ g + low f + 2 → round f s (x * 2 ^ g) (v * 2 ^ h) ≡ round f s (y * 2 ^ g) (2 ^ h)
+pub round-sticky : (f : Format) (s : Bool) (v x y g h : ℕ) → 0 < v → Sticky v x y → 2 ^ suc (prec f) ≤ y → h ≤ g + low f + 2
+    → round f s (x * 2 ^ g) (v * 2 ^ h) ≡ round f s (y * 2 ^ g) (2 ^ h)
 round-sticky f s v x y g h p t l u =
     let d = size y - prec f in
     let many : suc (prec f) < size y = lt-of-not-le (λ (n : size y ≤ suc (prec f)). lt-irrefl y (lt-of-lt-of-le (size-lt y) (le-trans (pow-mono n) l))) in
-    let at : (v x : ℕ) → 0 < v → Sticky v x y → round f s (x * 2 ^ g) (v * 2 ^ h) ≡ ofBits f (cond s (top f) 0 + min ((g + low f + d - h) * hid f + closest y (2 ^ d)) (ones f * hid f)) =
+    let pattern = min ((g + low f + d - h) * hid f + closest y (2 ^ d)) (ones f * hid f) in
+    let at : (v x : ℕ) → 0 < v → Sticky v x y → round f s (x * 2 ^ g) (v * 2 ^ h) ≡ ofBits f (cond s (top f) 0 + pattern) =
     λ v x p t.
     round-word f s v x y g h (g + low f + d - h) d p (two-more (size y) (prec f) many) (scales g (low f) d h (two-more (size y) (prec f) many) u) t
     (subst (λ (a : ℕ). y < 2 ^ a) (whole (size y) (prec f) many) (size-lt y)) (inr (size-reaches y (prec f - 1 + d) (below (size y) (prec f) many (two f)))) in

@@ -1,7 +1,6 @@
 // The query, module 6 of document 01: where a path is at s, and its derivatives there. The lookup and the
 // evaluation are crates of their own.
-ghost use Rattle.rules.specs.Query.{buffers, Queried};
-ghost use Rattle.rules.specs.Query.{queryOf};
+ghost use Rattle.rules.specs.Query.{buffers, Queried, queryOf};
 use query_axes::eval_axes;
 use query_lookup::segment_tau;
 use rules::Lookup;

@@ -2,8 +2,7 @@
 // function is thin and takes any operands; the work is the query's. The borrow checker covers no function over
 // a struct that holds a reference, so each is proved by hand; whoever calls `eval_path` needs no such proof.
 ghost use mathlib.Core.Path.{_≡_};
-ghost use Rattle.rules.specs.Query.{buffers, Queried};
-ghost use Rattle.rules.specs.Query.{queryOf};
+ghost use Rattle.rules.specs.Query.{buffers, Queried, queryOf};
 use rules::PathParam;
 use rules::PathRecord;
 

@@ -24,4 +24,7 @@ unfolding validRange invDs
 by-quotient segments lo hi =
     let inv = invDs segments lo hi in
     needless (finite (lo .0) && finite (hi .0) && lt (lo .0) (hi .0)) (finite inv) (lt +0 inv)
-    (λ h. terms-apart binary64 (hi .0) (lo .0) (divisor-positive binary64 segments (hi .0 ⊖ lo .0) (above-zero inv (and-l (finite inv) (lt +0 inv) h) (and-r (finite inv) (lt +0 inv) h))))
+    (λ h.
+    terms-apart binary64 (hi .0) (lo .0)
+    (divisor-positive binary64 segments (hi .0 ⊖ lo .0)
+    (above-zero inv (and-l (finite inv) (lt +0 inv) h) (and-r (finite inv) (lt +0 inv) h))))

@@ -1,4 +1,5 @@
--- The table of a build fills its buffer exactly: `length-table`. So a build keeps the length of the buffer, whatever it is given: `keeps-length`. Assumes nothing.
+-- The table of a build fills its buffer exactly: `length-table`. So a build keeps the length of the buffer, whatever it is
+-- given: `keeps-length`. Assumes nothing.
 use mathlib.Core.Path.{_≡_, refl, sym, ap₂, _∙_}
 use mathlib.Core.Logic.{_⊎_, inl, inr}
 use mathlib.Core.Bool.{Bool, true, false, cond, _||_}
@@ -11,7 +12,8 @@ use lib.ListN.{length, length-append}
 use lib.Ieee.{Float}
 use Rattle.rules.specs.declared.BoundaryState.{BoundaryState}
 use Rattle.rules.specs.Tables.{mOf}
-use Rattle.rules.specs.Build.{BuildInput, validOrder, tableLength, buildQuestions, inputQuestions, pivotQuestions, buildNumber, segmentCoefficients, solvedSide, innerNumbers}
+use Rattle.rules.specs.Build.{BuildInput, validOrder, tableLength, buildQuestions, inputQuestions}
+use Rattle.rules.specs.Build.{pivotQuestions, buildNumber, segmentCoefficients, solvedSide, innerNumbers}
 use Rattle.rules.specs.Build.{nodeNumbers, axisCoefficients, axisState, table, bufferAfter}
 use Rattle.law_lists.proofs.Lists.{length-listed, length-joined}
 use Rattle.rules.proofs.Questions.{answerAt, said-yes}

@@ -9,7 +9,8 @@ use lib.ListN.{length}
 use lib.Ieee.{Float}
 use Rattle.rules.specs.Questions.{firstNo}
 use Rattle.rules.specs.Tables.{mOf}
-use Rattle.rules.specs.Build.{BuildInput, everyPivot, inputQuestions, pivotQuestions, buildQuestions, buildNumber, acceptedRecord, refusedRecord, buildAnswer, table, bufferAfter}
+use Rattle.rules.specs.Build.{BuildInput, everyPivot, inputQuestions, pivotQuestions, buildQuestions}
+use Rattle.rules.specs.Build.{buildNumber, acceptedRecord, refusedRecord, buildAnswer, table, bufferAfter}
 use Rattle.rules.proofs.Questions.{first-no, first-yes, yes-to, no-to}
 
 module _ (b : BuildInput) (cells : ℕ) where

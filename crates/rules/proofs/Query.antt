@@ -11,8 +11,10 @@ use lib.Ieee.{Float}
 use lib.Ieee.Fits.{and-l, and-r}
 use Rattle.rules.specs.Floats.{_!_}
 use Rattle.rules.specs.Tables.{mOf}
-use Rattle.rules.specs.Build.{BuildInput, validOrder, acceptedRecord, dy, segmentCoefficients, nodeNumbers, axisCoefficients, axisWaypoints, axisState, table}
-use Rattle.rules.specs.Query.{QueryInput, Lengths, writes, validLength, queryQuestions, pathQuestions, bufferQuestions, rangeQuestions, queryNumber, segmentOf, derivative, derivativeAfter}
+use Rattle.rules.specs.Build.{BuildInput, validOrder, acceptedRecord, dy, segmentCoefficients}
+use Rattle.rules.specs.Build.{nodeNumbers, axisCoefficients, axisWaypoints, axisState, table}
+use Rattle.rules.specs.Query.{QueryInput, Lengths, writes, validLength, queryQuestions, pathQuestions}
+use Rattle.rules.specs.Query.{bufferQuestions, rangeQuestions, queryNumber, segmentOf, derivative, derivativeAfter}
 use Rattle.law_lists.proofs.Lists.{length-listed, joined-twice}
 use Rattle.rules.proofs.Questions.{said-yes}
 use Rattle.rules.proofs.Build.{coefficient-count, length-segment, length-node, length-state}
@@ -61,7 +63,8 @@ module _ (i : QueryInput) (n : Lengths) where
   -- D1: no buffer changes its length
   pub keeps-length : (k : ℕ) → k ≤ 3 → (before : List Float) → length before ≡ lengthOf n k → length (derivativeAfter i n k before) ≡ length before
   unfolding derivativeAfter
-  keeps-length k h before e = go (eqb (queryNumber i n) 0) (writes (i .level) k) (eqb→eq (queryNumber i n) 0) (λ t. written (writes (i .level) k) (lengthOf n k) t)
+  keeps-length k h before e =
+      go (eqb (queryNumber i n) 0) (writes (i .level) k) (eqb→eq (queryNumber i n) 0) (λ t. written (writes (i .level) k) (lengthOf n k) t)
     where
       go : (a w : Bool) → (T a → queryNumber i n ≡ 0) → (T w → T (valid k (lengthOf n k)) → lengthOf n k ≡ i .path .axes)
           → length (cond (a && w) (derivative i k) before) ≡ length before
@@ -77,7 +80,10 @@ module _ (b : BuildInput) (axis i : ℕ) where
   m = mOf (b .config .order)
 
   abbrev node : ℕ → List Float
-  node = nodeNumbers m (b .points - 2) (axisWaypoints b axis) (axisState b (b .config .«start_state») (b .start) axis) (axisState b (b .config .«end_state») (b .end) axis)
+  node =
+      nodeNumbers m (b .points - 2) (axisWaypoints b axis)
+      (axisState b (b .config .«start_state») (b .start) axis)
+      (axisState b (b .config .«end_state») (b .end) axis)
 
   abbrev pub builtSegment : List Float
   builtSegment = segmentCoefficients m (axisWaypoints b axis ! i) (dy (axisWaypoints b axis) i) (node i) (node (suc i))

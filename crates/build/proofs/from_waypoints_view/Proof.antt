@@ -11,9 +11,8 @@ use lib.ListN.{length}
 use lib.Ieee.{Float}
 use Rattle.rules.specs.declared.PathRecord.{PathRecord}
 use Rattle.rules.specs.Questions.{firstNo}
-use Rattle.rules.specs.Build.{BuildInput, inputQuestions, buildNumber}
+use Rattle.rules.specs.Build.{BuildInput, inputQuestions, buildNumber, inputOf}
 use Rattle.rules.proofs.BuildAnswers.{no-number, pivot-number, yes-number, refused-answer, accepted-answer, refused-buffer, accepted-buffer}
-use Rattle.rules.specs.Build.{inputOf}
 use Rattle.build_axes.specs.AllAxes.{allAxes}
 use Rattle.build.proofs.Answered.{planOf, order-known, points-known, planned, cells-are, table-is}
 use Rattle.build.proofs.from_waypoints_view.Statement.{statement}
@@ -81,7 +80,9 @@ returns-2 c =
     let no : f .fill .result ≡ false = not-true _ (c .before .if2 .taken) in
     let is : number p ≡ 307 = pivot-number (given p) (length (buffer p)) (said-yes d) (sym (f .fill .ensures .0) ∙ no) in (
       c .refused2 .ensures ∙ sym (refused-answer (given p) (length (buffer p)) 307 (λ e. omega arith) is),
-      f .fill .ensures .1 ∙ ap (λ (ok : Bool). left p ok (f .before .before .before .accepted .result .«inv_ds»)) no ∙ sym (refused-buffer (given p) (buffer p) 307 (λ e. omega arith) is),
+      f .fill .ensures .1
+          ∙ ap (λ (ok : Bool). left p ok (f .before .before .before .accepted .result .«inv_ds»)) no
+          ∙ sym (refused-buffer (given p) (buffer p) 307 (λ e. omega arith) is),
     )
 
 returns-3 : tie.Need-returns-3
@@ -93,7 +94,10 @@ returns-3 c =
     let yes : f .fill .result ≡ true = not-false _ (c .if2 .left) in
     let is : number p ≡ 0 = yes-number (given p) (length (buffer p)) (said-yes d) (sym (f .fill .ensures .0) ∙ yes) in (
       rw path (sym (accepted-answer (given p) (length (buffer p)) is)),
-      f .fill .ensures .1 ∙ ap₂ (left p) yes (ap (λ (r : PathRecord). r .«inv_ds») path) ∙ table-is (given p) (buffer p) (said-yes d) ∙ sym (accepted-buffer (given p) (buffer p) is),
+      f .fill .ensures .1
+          ∙ ap₂ (left p) yes (ap (λ (r : PathRecord). r .«inv_ds») path)
+          ∙ table-is (given p) (buffer p) (said-yes d)
+          ∙ sym (accepted-buffer (given p) (buffer p) is),
     )
 
 pub from-waypoints-view-spec : {M : Type 1} → statement M

@@ -1,4 +1,5 @@
--- `build_factoring::eliminate_row` eliminates one row. The loop's invariant: of any matrix that was done up to row i, row i is done in the columns before j. Assumes nothing.
+-- `build_factoring::eliminate_row` eliminates one row. The loop's invariant: of any matrix that was done up to row i, row i is
+-- done in the columns before j. Assumes nothing.
 use mathlib.Core.Path.{_≡_, sym, _∙_}
 use mathlib.Core.List.{List}
 use Prim.Native.Nat.{_+_, _-_, _*_, _<_, _≤_}
@@ -13,7 +14,14 @@ use Rattle.build_factoring.proofs.eliminate_row.Statement.{statement}
 use Rattle.build_factoring.proofs.eliminate_row.Tie as tie
 
 abbrev Inv-loop : tie.InvT-loop
-Inv-loop m a₀ k i reciprocal multiplier j₀ a j = (k < j) × (j ≤ m) × (i * m + m ≤ m * m) × (k * m + m ≤ m * m) × (length a ≡ m * m) × ((b : List Float) → length b ≡ m * m → multiplier ≡ entry m b i k ⊗ reciprocal → a₀ ≡ rowDone m k reciprocal b i (k + 1) → a ≡ rowDone m k reciprocal b i j)
+Inv-loop m a₀ k i reciprocal multiplier j₀ a j =
+    (k < j)
+    × (j ≤ m)
+    × (i * m + m ≤ m * m)
+    × (k * m + m ≤ m * m)
+    × (length a ≡ m * m)
+    × ((b : List Float) → length b ≡ m * m → multiplier ≡ entry m b i k ⊗ reciprocal
+    → a₀ ≡ rowDone m k reciprocal b i (k + 1) → a ≡ rowDone m k reciprocal b i j)
 
 abbrev μ-loop : tie.MeasureT-loop
 μ-loop m a₀ k i reciprocal multiplier j₀ a j = m - j

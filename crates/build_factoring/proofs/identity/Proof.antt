@@ -17,13 +17,21 @@ loop-holds : tie.Need-loop-holds Inv-loop μ-loop
 loop-holds c = (omega arith, refl, sym (filled-none _ _))
 
 loop-again : tie.Need-loop-again Inv-loop μ-loop
-loop-again c = let at = c .before .loop in (omega arith, rw length-set (at .inv .1), rw (at .inv .2) (filled-set 0 (at .i) (λ j. j) (c .before .before .args .rows .now) (at .i) (omega arith) refl))
+loop-again c =
+    let at = c .before .loop in (
+      omega arith,
+      rw length-set (at .inv .1),
+      rw (at .inv .2) (filled-set 0 (at .i) (λ j. j) (c .before .before .args .rows .now) (at .i) (omega arith) refl),
+    )
 
 same-length : tie.Need-same-length Inv-loop μ-loop
 same-length c = c .before .loop .inv .1
 
 returns : tie.Need-returns Inv-loop μ-loop
-returns c = let at = c .before .loop in let e : at .i ≡ length (c .before .before .args .rows .now) = omega arith in (rw e at (at .inv .2)) ∙ filled-all _ _ _ (omega arith)
+returns c =
+    let at = c .before .loop in
+    let e : at .i ≡ length (c .before .before .args .rows .now) = omega arith in
+    (rw e at (at .inv .2)) ∙ filled-all _ _ _ (omega arith)
 
 pub identity-spec : {M : Type 1} → statement M
 identity-spec =

@@ -1,8 +1,6 @@
 -- `build_nodes::factor_node` factors inner node i and solves C with it, from what its three calls give. Assumes nothing.
-use mathlib.Core.Path.{ap, _∙_}
 use native.Mathlib.Omega.{arith}
 use borrow.Author.Needs.{needs}
-use lib.ListN.{length}
 use Rattle.rules.specs.Solve.{nodeFactors}
 use Rattle.build_nodes.specs.NodeLists.{nodeSolved}
 use Rattle.build_factoring.proofs.Factors.{rows-below}

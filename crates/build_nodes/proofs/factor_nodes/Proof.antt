@@ -1,5 +1,5 @@
--- `build_nodes::factor_nodes` goes from node to node. The loop's invariant: the first i nodes are done, each list has their parts and its own cells from there on,
--- and `ok` says whether no pivot of theirs is zero. Assumes nothing.
+-- `build_nodes::factor_nodes` goes from node to node. The loop's invariant: the first i nodes are done, each list has their
+-- parts and its own cells from there on, and `ok` says whether no pivot of theirs is zero. Assumes nothing.
 use mathlib.Core.Path.{_≡_, refl, sym, _∙_}
 use mathlib.Core.Bool.{true, false}
 use mathlib.Core.Logic.{⊎-elim}

@@ -12,7 +12,10 @@ use Rattle.build_nodes.proofs.node_entries.Statement.{statement}
 use Rattle.build_nodes.proofs.node_entries.Tie as tie
 
 -- the part of the node before ends where this node's would start
-ends : (c : tie.Else1) → let args = c .before .before .before .before .before .args in (args .i - 1) * (args .m * args .m) + args .m * args .m ≡ args .i * (args .m * args .m)
+ends : (c : tie.Else1)
+    → let args = c .before .before .before .before .before .args in
+    let k = args .m * args .m in
+    (args .i - 1) * k + k ≡ args .i * k
 ends c =
     let args = c .before .before .before .before .before .args in
     let k = args .m * args .m in
@@ -41,7 +44,8 @@ node-matrix-requires c κs =
 returns-2 : tie.Need-returns-2
 returns-2 c =
     let start = c .before .before .before .before .before .before .before .before .before .before in
-    rw (c .before .before .node-matrix .ensures) (node-after _ (start .args .i) (start .args .i - 1) _ _ _ (omega arith) (start .pre .0) (start .pre .1) (start .pre .2))
+    let i = start .args .i in
+    rw (c .before .before .node-matrix .ensures) (node-after _ i (i - 1) _ _ _ (omega arith) (start .pre .0) (start .pre .1) (start .pre .2))
 
 pub node-entries-spec : {M : Type 1} → statement M
 node-entries-spec =

@@ -1,14 +1,13 @@
 -- `build_plan::both_ends` meets its contract: what is lent for the first node and for the last comes back one behind the other. Assumes nothing.
 use mathlib.Core.Path.{_≡_, ap, _∙_}
 use mathlib.Core.List.{List, _++_}
-use lib.ListN.{length, take, drop}
+use lib.ListN.{length, take}
 use lib.Seq.{take-at, drop-at}
 use lib.Ieee.{Float}
-use Prim.Native.Nat.{ℕ, _+_, _-_}
+use Prim.Native.Nat.{ℕ}
 use Rattle.law_lists.proofs.Lists.{length-listed}
 use Rattle.law_lists.proofs.Lent.{both-halves}
-use Rattle.build_plan.specs.Given.{endNumbers}
-use Rattle.build_plan.specs.Given.{firstOf, lastOf}
+use Rattle.build_plan.specs.Given.{endNumbers, firstOf, lastOf}
 use borrow.Author.Needs.{needs}
 use Rattle.build_plan.proofs.both_ends.Statement.{statement}
 use Rattle.build_plan.proofs.both_ends.Tie as tie

@@ -41,16 +41,18 @@ module _ (axes axis r : ℕ) (numbers : List Float) (state : BoundaryState) (row
   unfolding boundaryNumber
   plain inv t = rw (e, t)
 
-enum-told : tie.Need-enum-told
-enum-told c = search needs
+-- the entry, from where the state is known to be given
+abbrev start : tie.After-state → tie.Start
+start c = c .before .before .before
 
-shared-slice-read-x : tie.Need-shared-slice-read-x
-shared-slice-read-x c = inside _ _ _ _ _ _ _ _ (c .before .before .state .given .1) (c .before .before .before .before .before .pre .0) (c .before .before .before .before .before .pre .1)
+-- the place that is read is inside
+place : (c : tie.After-state) → let args = start c .args in args .r * args .axes + args .axis < length (args .numbers .now)
+place c = inside _ _ _ _ _ _ _ _ (c .state .given .1) (start c .pre .0) (start c .pre .1)
 
 add-divided : tie.Need-add-divided
 add-divided c =
-    let start = c .before .before .before .before .before .before in
-    omega (arith, few _ _ _ _ _ _ _ _ (c .before .before .before .state .given .1) (start .pre .0) (start .pre .1))
+    let s = c .before .before .before in
+    omega (arith, few _ _ _ _ _ _ _ _ (s .state .given .1) (start s .pre .0) (start s .pre .1))
 
 returns : tie.Need-returns
 unfolding boundaryNumber ofBits
@@ -58,33 +60,30 @@ returns c = rw (c .enum-told .given .1)
 
 returns-2 : tie.Need-returns-2
 returns-2 c =
-    let start = c .before .before .before .before .before .before .before in
-    let args = start .args in
-    let is = c .before .before .before .before .state .given .1 in
+    let s = c .before .before .before .before in
+    let args = start s .args in
     let at = args .r * args .axes + args .axis in
     c .divided .ensures
-    ∙ ap (λ (x : Float). divided (args .r + 1) x (args .inv-ds)) (read (args .numbers .now) at (inside _ _ _ _ _ _ _ _ is (start .pre .0) (start .pre .1)))
-    ∙ marked _ _ _ _ _ _ _ _ is (args .inv-ds) (c .before .if1 .taken)
+    ∙ ap (λ (x : Float). divided (args .r + 1) x (args .inv-ds)) (read (args .numbers .now) at (place s))
+    ∙ marked _ _ _ _ _ _ _ _ (s .state .given .1) (args .inv-ds) (c .before .if1 .taken)
 
 returns-3 : tie.Need-returns-3
 returns-3 c =
-    let start = c .before .before .before .before .before .before in
-    let args = start .args in
-    let is = c .before .before .before .state .given .1 in
+    let s = c .before .before .before in
+    let args = start s .args in
     let at = args .r * args .axes + args .axis in
-    read (args .numbers .now) at (inside _ _ _ _ _ _ _ _ is (start .pre .0) (start .pre .1))
-    ∙ plain _ _ _ _ _ _ _ _ is (args .inv-ds) (c .if1 .left)
+    read (args .numbers .now) at (place s) ∙ plain _ _ _ _ _ _ _ _ (s .state .given .1) (args .inv-ds) (c .if1 .left)
 
 pub boundary-number-spec : {M : Type 1} → statement M
 boundary-number-spec =
     tie.close
     (tie.spec
-    enum-told
     (λ c. search needs)
-    (λ c. omega (arith, inside _ _ _ _ _ _ _ _ (c .before .state .given .1) (c .before .before .before .before .pre .0) (c .before .before .before .before .pre .1)))
-    (λ c. omega (arith, inside _ _ _ _ _ _ _ _ (c .before .state .given .1) (c .before .before .before .before .pre .0) (c .before .before .before .before .pre .1)))
-    (λ c. omega (arith, inside _ _ _ _ _ _ _ _ (c .before .state .given .1) (c .before .before .before .before .pre .0) (c .before .before .before .before .pre .1)))
-    shared-slice-read-x
+    (λ c. search needs)
+    (λ c. omega (arith, place (c .before)))
+    (λ c. omega (arith, place (c .before)))
+    (λ c. omega (arith, place (c .before)))
+    (λ c. place (c .before .before))
     add-divided
     (λ c κs. search needs)
     returns

@@ -25,7 +25,8 @@ loop-holds c = (sym (filled-none _ _), search needs, search needs)
 boundary-number-requires : tie.Need-boundary-number-requires Inv-loop μ-loop
 boundary-number-requires c κs =
     let start = c .before .before .before .before in
-    (start .pre .0, fewer (start .args .axes) (c .before .loop .r + 1) (start .args .m) (start .args .state) (start .args .numbers .now) (omega arith) (start .pre .1))
+    let args = start .args in
+    (start .pre .0, fewer (args .axes) (c .before .loop .r + 1) (args .m) (args .state) (args .numbers .now) (omega arith) (start .pre .1))
 
 loop-again : tie.Need-loop-again Inv-loop μ-loop
 loop-again c =

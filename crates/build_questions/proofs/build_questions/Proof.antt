@@ -10,10 +10,9 @@ use lib.ListN.{drop}
 use borrow.Author.Needs.{needs}
 use borrow.Author.Tests.{le-leb, lt-leb, eq-eqb, ne-eqb}
 use Rattle.rules.specs.Questions.{Question, firstNo}
-use Rattle.rules.specs.Build.{validAxes, inputQuestions}
+use Rattle.rules.specs.Build.{validAxes, inputQuestions, inputOf}
 use Rattle.rules.proofs.Questions.{yes-to, no-to}
 use Rattle.rules.proofs.Build.{by-order}
-use Rattle.rules.specs.Build.{inputOf}
 use Rattle.questions.proofs.Tests.{no, yes}
 use Rattle.build_questions.proofs.build_questions.Statement.{statement}
 use Rattle.build_questions.proofs.build_questions.Tie as tie
@@ -24,6 +23,16 @@ Place = tie.After-valid-order
 
 abbrev start : Place → tie.Start
 start p = p .before .before .before .before .before .before
+
+-- the way back to it from behind the fourth, the sixth and the ninth question
+abbrev behind-4 : tie.Else5 → Place
+behind-4 c = c .before .before .before .before .before
+
+abbrev behind-6 : tie.Else7 → Place
+behind-6 c = behind-4 (c .before .before .before)
+
+abbrev behind-9 : tie.Else10 → Place
+behind-9 c = behind-6 (c .before .before .before .before .before)
 
 abbrev asked : Place → List Question
 asked p =
@@ -45,52 +54,56 @@ past-3 : (c : tie.Else3) → Past 3 (c .before .before .before)
 unfolding inputQuestions
 past-3 c = past-2 (c .before) ∙ yes-to _ _ (le-leb _ 257 (c .if3 .left))
 
-past-4 : (c : tie.Else5) → Past 4 (c .before .before .before .before .before)
+past-4 : (c : tie.Else5) → Past 4 (behind-4 c)
 unfolding inputQuestions validAxes
 past-4 c = past-3 (c .before .before) ∙ yes-to _ _ (rw (le-leb 1 _ (c .before .if4 .left), le-leb _ 8 (c .if5 .left)))
 
-past-5 : (c : tie.Else6) → Past 5 (c .before .before .before .before .before .before)
+past-5 : (c : tie.Else6) → Past 5 (behind-4 (c .before))
 unfolding inputQuestions
 past-5 c = past-4 (c .before) ∙ yes-to _ _ (eq-eqb _ _ (c .if6 .left))
 
-past-6 : (c : tie.Else7) → Past 6 (c .before .before .before .before .before .before .before .before)
+past-6 : (c : tie.Else7) → Past 6 (behind-6 c)
 unfolding inputQuestions
 past-6 c = past-5 (c .before .before) ∙ yes-to _ _ (yes (c .before .valid-state .ensures) (c .if7 .left))
 
-past-7 : (c : tie.Else8) → Past 7 (c .before .before .before .before .before .before .before .before .before .before)
+past-7 : (c : tie.Else8) → Past 7 (behind-6 (c .before .before))
 unfolding inputQuestions
 past-7 c = past-6 (c .before .before) ∙ yes-to _ _ (yes (c .before .valid-state2 .ensures) (c .if8 .left))
 
-past-8 : (c : tie.Else9) → Past 8 (c .before .before .before .before .before .before .before .before .before .before .before)
+past-8 : (c : tie.Else9) → Past 8 (behind-6 (c .before .before .before))
 unfolding inputQuestions
 past-8 c = past-7 (c .before) ∙ yes-to _ _ (eq-eqb _ _ (c .if9 .left))
 
-past-9 : (c : tie.Else10) → Past 9 (c .before .before .before .before .before .before .before .before .before .before .before .before .before)
+past-9 : (c : tie.Else10) → Past 9 (behind-9 c)
 unfolding inputQuestions
 past-9 c = past-8 (c .before .before) ∙ yes-to _ _ (yes (c .before .valid-range .ensures) (c .if10 .left))
 
-past-10 : (c : tie.Else13) → Past 10 (c .before .before .before .before .before .before .before .before .before .before .before .before .before .before .before .before .before .before .before)
+past-10 : (c : tie.Else13) → Past 10 (behind-9 (c .before .before .before .before .before .before))
 unfolding inputQuestions
 past-10 c =
     let e = c .before .before in
     let d = e .before .before in
     past-9 (d .before .before)
-    ∙ yes-to _ _ (rw (yes (d .before .all-finite .ensures) (d .if11 .left), yes (e .before .finite-state .ensures) (e .if12 .left), yes (c .before .finite-state2 .ensures) (c .if13 .left)))
+    ∙ yes-to _ _ (rw (
+      yes (d .before .all-finite .ensures) (d .if11 .left),
+      yes (e .before .finite-state .ensures) (e .if12 .left),
+      yes (c .before .finite-state2 .ensures) (c .if13 .left),
+    ))
 
 -- behind the first four questions the numbers are small
-order-bounds : (c : tie.Else5) → let order = start (c .before .before .before .before .before) .args .config .order in (3 ≤ order) × (order ≤ 7)
+order-bounds : (c : tie.Else5) → let order = start (behind-4 c) .args .config .order in (3 ≤ order) × (order ≤ 7)
 order-bounds c =
     let d = c .before .before .before .before in
     by-order (λ order. (3 ≤ order) × (order ≤ 7)) (omega arith, omega arith) (omega arith, omega arith) (omega arith, omega arith)
     (start (d .before) .args .config .order) (subst T (sym (yes (d .before .valid-order .ensures) (d .if1 .left))) tt)
 
-state-bounds : (c : tie.Else5) → let a = start (c .before .before .before .before .before) .args in (a .axes ≤ 8) × ((a .config .order - 1) / 2 ≤ 3)
+state-bounds : (c : tie.Else5) → let a = start (behind-4 c) .args in (a .axes ≤ 8) × ((a .config .order - 1) / 2 ≤ 3)
 state-bounds c = let h = order-bounds c in (c .if5 .left, omega arith)
 
-segments-bound : (c : tie.Else5) → let a = start (c .before .before .before .before .before) .args in a .axes * (a .points - 1) ≤ 8 * 256
+segments-bound : (c : tie.Else5) → let a = start (behind-4 c) .args in a .axes * (a .points - 1) ≤ 8 * 256
 segments-bound c = let h = c .before .before .if3 .left in mul-le-mul {m₂ = 256} (c .if5 .left) (omega arith)
 
-table-bound : (c : tie.Else5) → let a = start (c .before .before .before .before .before) .args in a .axes * (a .points - 1) * (a .config .order + 1) ≤ 8 * 256 * 8
+table-bound : (c : tie.Else5) → let a = start (behind-4 c) .args in a .axes * (a .points - 1) * (a .config .order + 1) ≤ 8 * 256 * 8
 table-bound c = let h = order-bounds c in mul-le-mul {m₂ = 8} (segments-bound c) (omega arith)
 
 returns : tie.Need-returns
@@ -162,14 +175,20 @@ returns-12 : tie.Need-returns-12
 unfolding inputQuestions
 returns-12 c =
     let d = c .before .before in
-    sym (past-9 (d .before .before) ∙ no-to _ (rw (yes (d .before .all-finite .ensures) (d .if11 .left), no (c .before .finite-state .ensures) (c .if12 .taken))))
+    sym (past-9 (d .before .before)
+    ∙ no-to _ (rw (yes (d .before .all-finite .ensures) (d .if11 .left), no (c .before .finite-state .ensures) (c .if12 .taken))))
 
 returns-13 : tie.Need-returns-13
 unfolding inputQuestions
 returns-13 c =
     let e = c .before .before in
     let d = e .before .before in
-    sym (past-9 (d .before .before) ∙ no-to _ (rw (yes (d .before .all-finite .ensures) (d .if11 .left), yes (e .before .finite-state .ensures) (e .if12 .left), no (c .before .finite-state2 .ensures) (c .if13 .taken))))
+    sym (past-9 (d .before .before)
+    ∙ no-to _ (rw (
+      yes (d .before .all-finite .ensures) (d .if11 .left),
+      yes (e .before .finite-state .ensures) (e .if12 .left),
+      no (c .before .finite-state2 .ensures) (c .if13 .taken),
+    )))
 
 returns-14 : tie.Need-returns-14
 unfolding inputQuestions firstNo

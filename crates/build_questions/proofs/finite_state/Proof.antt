@@ -5,9 +5,6 @@ use Rattle.rules.specs.Build.{finiteState}
 use Rattle.build_questions.proofs.finite_state.Statement.{statement}
 use Rattle.build_questions.proofs.finite_state.Tie as tie
 
-enum-told : tie.Need-enum-told
-enum-told c = search needs
-
 returns : tie.Need-returns
 unfolding finiteState
 returns c = simp (c .enum-told .given .1)
@@ -18,4 +15,4 @@ returns-2 c = c .all-finite .ensures ∙ simp (c .before .enum-told2 .given .1)
 
 pub finite-state-spec : {M : Type 1} → statement M
 finite-state-spec =
-    tie.close (tie.spec enum-told (λ c. search needs) (λ c κs. search needs) returns returns-2)
+    tie.close (tie.spec (λ c. search needs) (λ c. search needs) (λ c κs. search needs) returns returns-2)

@@ -30,9 +30,6 @@ module _ (axes m : ℕ) (s : BoundaryState) (numbers : List Float) {rows columns
   unfolding validState
   its-length h k = rw (e, eq-eqb rows axes h, eq-eqb columns m k)
 
-enum-told : tie.Need-enum-told
-enum-told c = search needs
-
 returns : tie.Need-returns
 returns c =
     let a = c .before .before .before .before .args in
@@ -61,4 +58,4 @@ returns-4 c =
 pub valid-state-spec : {M : Type 1} → statement M
 valid-state-spec =
     tie.close
-    (tie.spec enum-told (λ c. search needs) returns returns-2 mul-result returns-3 returns-4)
+    (tie.spec (λ c. search needs) (λ c. search needs) returns returns-2 mul-result returns-3 returns-4)

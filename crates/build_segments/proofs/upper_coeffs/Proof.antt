@@ -1,4 +1,5 @@
--- `build_segments::upper_coeffs` meets its contract. The loop's invariant: the list has the upper coefficients below i, and its own cells from i on. Assumes nothing.
+-- `build_segments::upper_coeffs` meets its contract. The loop's invariant: the list has the upper coefficients below i, and its
+-- own cells from i on. Assumes nothing.
 use Prim.Native.Nat.{_+_, _-_, _*_, _≤_}
 use native.Mathlib.Omega.{arith}
 use lib.ListN.{length}
@@ -45,7 +46,11 @@ loop-again c =
     let i = at-loop .loop .i in
     let args = begun at-loop .args in
     step (at-loop .loop .inv)
-    (rw (read (args .h-coeff .now) (i * (1 + 2 * args .m)) (omega (arith, row (c .before .before .before))), c .before .before .dot .ensures, c .before .dot2 .ensures)
+    (rw (
+      read (args .h-coeff .now) (i * (1 + 2 * args .m)) (omega (arith, row (c .before .before .before))),
+      c .before .before .dot .ensures,
+      c .before .dot2 .ensures,
+    )
     (upper-is (args .m) (args .dy) (args .h-coeff .now) (args .u0 .now) (args .u1 .now) i (begun at-loop .pre .1 .is)))
     (omega arith)
 

@@ -35,8 +35,9 @@ unfolding segmentCoefficients
 returns c =
     let start = c .before .before .before .before .before .before .before .before .before .before .before .before in
     let args = start .args in
+    let upper = listed (args .m + 1) (upperCoefficient (args .m) (args .dy) (args .u0 .now) (args .u1 .now)) in
     rw (c .before .before .before .before .before .before .copy .ensures, c .before .before .upper-coeffs .ensures)
-    (assembled (args .m) (args .y) (args .out .now) (args .u0 .now) (listed (args .m + 1) (upperCoefficient (args .m) (args .dy) (args .u0 .now) (args .u1 .now)))
+    (assembled (args .m) (args .y) (args .out .now) (args .u0 .now) upper
     (start .pre .4) (start .pre .2) (length-listed (args .m + 1) _))
 
 pub write-segment-coeffs-spec : {M : Type 1} → statement M

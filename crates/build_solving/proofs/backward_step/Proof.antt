@@ -63,7 +63,12 @@ loop-again c =
       omega arith,
       inv .1,
       step (inv .2)
-          (rw (lt-ltb i k (omega arith), left (inv .2) i (omega arith) (omega arith), read (args .entries .now) (i * m + k) (inside (c .before .before)), inv .1))
+          (rw (
+            lt-ltb i k (omega arith),
+            left (inv .2) i (omega arith) (omega arith),
+            read (args .entries .now) (i * m + k) (inside (c .before .before)),
+            inv .1,
+          ))
           (omega arith),
     )
 

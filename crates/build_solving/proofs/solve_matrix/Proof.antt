@@ -34,7 +34,8 @@ turned : (c : tie.After-solve Inv-loop μ-loop)
     → let at-loop = c .before .before .before .before in
     let args = begun at-loop .args in
     c .solve .last .1 .1 .1 .1 .0
-    ≡ solve (args .m) (record { entries = args .entries .now; rows = args .rows .now }) (column (args .m) (transposed (args .m) (args .c .now)) (at-loop .loop .j))
+    ≡ solve (args .m) (record { entries = args .entries .now; rows = args .rows .now })
+    (column (args .m) (transposed (args .m) (args .c .now)) (at-loop .loop .j))
 turned c =
     let at-loop = c .before .before .before .before in
     let args = begun at-loop .args in

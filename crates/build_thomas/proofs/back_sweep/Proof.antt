@@ -17,7 +17,8 @@ use Rattle.build_thomas.proofs.back_sweep.Tie as tie
 -- solved₀ is the list as it was, and b the node from which on it is swept
 abbrev Swept : ℕ → ℕ → List Float → ℕ → List Float → Type 0
 Swept m n solved₀ b solved =
-    (w start end : List Float) → take (n * m) solved₀ ≡ joined n (solvedSide m n w start end) → solved ≡ joined n (swept m n w start end b) ++ drop (n * m) solved₀
+    (w start end : List Float) → take (n * m) solved₀ ≡ joined n (solvedSide m n w start end)
+    → solved ≡ joined n (swept m n w start end b) ++ drop (n * m) solved₀
 
 abbrev Inv-loop : tie.InvT-loop
 Inv-loop m n solved-c next₀ solved₀ i₀ next solved i = (i ≤ n) × (length next ≡ m) × (length solved ≡ length solved₀) × Swept m n solved₀ (i - 1) solved
@@ -33,7 +34,9 @@ loop-holds c =
       omega arith,
       search needs,
       search needs,
-      λ w start end h. sym (take-append-drop (n * args .m) solved) ∙ ap (λ (xs : List Float). xs ++ drop (n * args .m) solved) (h ∙ swept-start (args .m) n w start end),
+      λ w start end h.
+          sym (take-append-drop (n * args .m) solved)
+          ∙ ap (λ (xs : List Float). xs ++ drop (n * args .m) solved) (h ∙ swept-start (args .m) n w start end),
     )
 
 back-step-requires : tie.Need-back-step-requires Inv-loop μ-loop
@@ -77,7 +80,8 @@ returns c =
     let args = at-loop .before .before .before .before .args in
     λ w start end h.
     at-loop .loop .inv .3 w start end h
-    ∙ ap (λ (xs : List Float). xs ++ drop (args .n * args .m) (args .solved .now)) (swept-end (args .m) (args .n) w start end (at-loop .loop .i - 1) (omega arith))
+    ∙ ap (λ (xs : List Float). xs ++ drop (args .n * args .m) (args .solved .now))
+    (swept-end (args .m) (args .n) w start end (at-loop .loop .i - 1) (omega arith))
 
 pub back-sweep-spec : {M : Type 1} → statement M
 back-sweep-spec =

@@ -1,5 +1,5 @@
--- `build_thomas::forward_sweep` meets its contract. The loop's invariant: the list has the solved right sides of the first i nodes, and its own cells behind them.
--- Assumes nothing.
+-- `build_thomas::forward_sweep` meets its contract. The loop's invariant: the list has the solved right sides of the first i
+-- nodes, and its own cells behind them. Assumes nothing.
 use mathlib.Core.Path.{_≡_, sym, ap, _∙_}
 use mathlib.Core.List.{List}
 use Prim.Native.Nat.{ℕ, suc, _+_, _-_, _*_, _<_, _≤_}
@@ -123,7 +123,8 @@ loop-again c =
     rw add-one at (points-dy p (args .waypoints .now) (args .axis) (i + 1) (omega arith) ∙ sym (dy-there .dy2 .ensures)) in (
       rw (node .solve-node .ensures)
           (step (inv .0)
-          (ap (solve m (nodeFactors m i)) (full .full-side .ensures w (inv .2) next (λ q. part-at (inv .0) (i - 1) (omega arith))) ∙ sym (solved-is m (p .n) w from to i))
+          (ap (solve m (nodeFactors m i)) (full .full-side .ensures w (inv .2) next (λ q. part-at (inv .0) (i - 1) (omega arith)))
+          ∙ sym (solved-is m (p .n) w from to i))
           (rw next-part (le-trans (part-inside m h) (start .pre .8)))),
       omega arith,
       rw add-one next,

@@ -1,4 +1,5 @@
--- `build_thomas::thomas_row` meets its contract: the sides are solved, the nodes' numbers found from them, and the segments written from those. Assumes nothing.
+-- `build_thomas::thomas_row` meets its contract: the sides are solved, the nodes' numbers found from them, and the segments
+-- written from those. Assumes nothing.
 use mathlib.Core.Path.{_≡_, ap, _∙_}
 use mathlib.Core.List.{List}
 use Prim.Native.Nat.{ℕ, _*_, _≤_}
@@ -35,7 +36,8 @@ abbrev back : tie.After-write-segments-arg3 → tie.After-back-sweep
 back c = c .before .before .before .before .before .before .before
 
 -- the list of the inner nodes is as long as it was
-same-solved : (c : tie.After-write-segments-arg3) → length (back c .back-sweep .last .1 .1 .1 .1 .0) ≡ length (start (tabled (forth (back c .before) .before)) .args .solved .now)
+same-solved : (c : tie.After-write-segments-arg3)
+    → length (back c .back-sweep .last .1 .1 .1 .1 .0) ≡ length (start (tabled (forth (back c .before) .before)) .args .solved .now)
 same-solved c = omega (arith, c .before .before .before .before .before .solved2 .given, back c .before .before .before .before .solved .given)
 
 few : (p : tie.Start) → p .args .plan .m ≤ 3
@@ -78,7 +80,8 @@ returns c =
     written .write-segments .ensures
     ∙ axis-is p boundary _ w _
     (b .back-sweep .ensures w first last
-    (ap (take (n * m)) (f .forward-sweep .ensures) ∙ take-at (joined n sides) _ (n * m) (length-joined n m sides (λ j l. length-solvedSide m n w first last j))))
+    (ap (take (n * m)) (f .forward-sweep .ensures)
+    ∙ take-at (joined n sides) _ (n * m) (length-joined n m sides (λ j l. length-solvedSide m n w first last j))))
 
 pub thomas-row-spec : {M : Type 1} → statement M
 thomas-row-spec =

@@ -9,8 +9,7 @@ use lib.Dec.{eqb}
 use lib.ListN.{length}
 use lib.Ieee.{Float}
 use Rattle.rules.specs.declared.BuildAnswer.{BuildAnswer}
-use Rattle.rules.specs.Build.{BuildInput, invDs, acceptedRecord, buildNumber, buildAnswer, bufferAfter}
-use Rattle.rules.specs.Build.{inputOf}
+use Rattle.rules.specs.Build.{BuildInput, invDs, acceptedRecord, buildNumber, buildAnswer, bufferAfter, inputOf}
 use Rattle.capi_numbers.specs.Meaning.{stateOf, configOf}
 use Rattle.capi.proofs.spline_build.Statement.{statement}
 use Rattle.capi.proofs.spline_build.Tie as tie
@@ -42,13 +41,17 @@ abbrev given : Place → BuildInput
 given p =
     let a = start p .args in
     inputOf
-    (configOf (a .order) (a .s-min) (a .s-max) (a .mode) (stateOf (a .start-kind) (a .start-rows) (a .start-cols)) (stateOf (a .end-kind) (a .end-rows) (a .end-cols)))
+    (configOf (a .order) (a .s-min) (a .s-max) (a .mode)
+    (stateOf (a .start-kind) (a .start-rows) (a .start-cols))
+    (stateOf (a .end-kind) (a .end-rows) (a .end-cols)))
     (a .points) (a .axes) (a .waypoints .now) (a .start .now) (a .end .now)
 
 abbrev buffer : Place → List Float
 buffer p = start p .args .coeffs .now
 
-built : (p : Place) → (p .from-waypoints-view .result ≡ buildAnswer (given p) (length (buffer p))) × (p .from-waypoints-view .last .1 .1 .1 .1 .1 .1 .0 ≡ bufferAfter (given p) (buffer p))
+built : (p : Place)
+    → (p .from-waypoints-view .result ≡ buildAnswer (given p) (length (buffer p)))
+    × (p .from-waypoints-view .last .1 .1 .1 .1 .1 .1 .0 ≡ bufferAfter (given p) (buffer p))
 built p =
     let q = p .before .before in
     rw (q .before .before .mode-of .ensures, q .before .state-of .ensures, q .state-of2 .ensures) at (p .from-waypoints-view .ensures)

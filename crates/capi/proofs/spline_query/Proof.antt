@@ -4,7 +4,9 @@ use Rattle.capi.proofs.spline_query.Statement.{statement}
 use Rattle.capi.proofs.spline_query.Tie as tie
 
 returns : tie.Need-returns
-returns c = let f = c .before .before .before .before .before .before .before .before in rw (f .before .before .before .before .before .mode-of .ensures) at (f .eval-at .ensures)
+returns c =
+    let f = c .before .before .before .before .before .before .before .before in
+    rw (f .before .before .before .before .before .mode-of .ensures) at (f .eval-at .ensures)
 
 pub spline-query-spec : {M : Type 1} → statement M
 spline-query-spec =

@@ -10,9 +10,6 @@ use Rattle.master.proofs.is_refused.Tie as tie
 abbrev isRefused : MasterAnswer → Bool
 isRefused answer = masterSays answer .refused
 
-enum-told : tie.Need-enum-told
-enum-told c = search needs
-
 returns : tie.Need-returns
 unfolding masterSays
 returns c = sym (ap isRefused (c .enum-told .given .1))
@@ -26,4 +23,4 @@ unfolding masterSays
 returns-3 c = sym (ap isRefused (c .enum-told3 .given .1))
 
 pub is-refused-spec : {M : Type 1} → statement M
-is-refused-spec = tie.close (tie.spec enum-told (λ c. search needs) (λ c. search needs) returns returns-2 returns-3)
+is-refused-spec = tie.close (tie.spec (λ c. search needs) (λ c. search needs) (λ c. search needs) returns returns-2 returns-3)

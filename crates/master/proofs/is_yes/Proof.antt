@@ -10,9 +10,6 @@ use Rattle.master.proofs.is_yes.Tie as tie
 abbrev isYes : MasterAnswer → Bool
 isYes answer = masterSays answer .good
 
-enum-told : tie.Need-enum-told
-enum-told c = search needs
-
 returns : tie.Need-returns
 unfolding masterSays
 returns c = sym (ap isYes (c .enum-told .given .1))
@@ -26,4 +23,4 @@ unfolding masterSays
 returns-3 c = sym (ap isYes (c .enum-told3 .given .1))
 
 pub is-yes-spec : {M : Type 1} → statement M
-is-yes-spec = tie.close (tie.spec enum-told (λ c. search needs) (λ c. search needs) returns returns-2 returns-3)
+is-yes-spec = tie.close (tie.spec (λ c. search needs) (λ c. search needs) (λ c. search needs) returns returns-2 returns-3)

@@ -4,9 +4,6 @@ use Rattle.rules.specs.Query.{clamped}
 use Rattle.query_lookup.proofs.clamped.Statement.{statement}
 use Rattle.query_lookup.proofs.clamped.Tie as tie
 
-enum-told : tie.Need-enum-told
-enum-told c = search needs
-
 returns : tie.Need-returns
 unfolding clamped
 returns c = rw (c .before .before .before .enum-told2 .given .1, c .if1 .taken)
@@ -28,4 +25,4 @@ returns-4 c =
     rw (d .before .before .before .enum-told2 .given .1, d .if1 .left, c .if2 .left)
 
 pub clamped-spec : {M : Type 1} → statement M
-clamped-spec = tie.close (tie.spec enum-told (λ c. search needs) returns returns-2 returns-3 returns-4)
+clamped-spec = tie.close (tie.spec (λ c. search needs) (λ c. search needs) returns returns-2 returns-3 returns-4)

@@ -24,9 +24,6 @@ error-asked : {mode : OutOfRangeMode} {t : Bool} (lo hi s : PathParam) → mode 
 unfolding inRange
 error-asked lo hi s e h = rw (e, ← h) (between (lo .0) (s .0) (le (s .0) (hi .0)))
 
-enum-told : tie.Need-enum-told
-enum-told c = search needs
-
 returns : tie.Need-returns
 returns c =
     let d = c .before .before in
@@ -43,4 +40,4 @@ unfolding inRange
 returns-3 c = number-test (c .before .before .before .args .s .0) ∙ rw (c .before .enum-told2 .given .1)
 
 pub in-range-spec : {M : Type 1} → statement M
-in-range-spec = tie.close (tie.spec enum-told (λ c. search needs) returns returns-2 returns-3)
+in-range-spec = tie.close (tie.spec (λ c. search needs) (λ c. search needs) returns returns-2 returns-3)

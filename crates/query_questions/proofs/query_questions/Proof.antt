@@ -27,6 +27,13 @@ Place = tie.After-valid-order
 abbrev start : Place → tie.Start
 start p = p .before .before .before
 
+-- the way back to it from behind the fourth and the fifth question
+abbrev behind-4 : tie.Else5 → Place
+behind-4 c = c .before .before .before .before .before
+
+abbrev behind-5 : tie.Else7 → Place
+behind-5 c = behind-4 (c .before .before .before .before)
+
 abbrev asked : Place → List Question
 asked p =
     let a = start p .args in
@@ -56,7 +63,7 @@ past-3 : (c : tie.Else3) → Past 3 (c .before .before .before)
 unfolding pathQuestions bufferQuestions
 past-3 c = past-2 (c .before) ∙ yes-to _ _ (le-leb _ 256 (c .if3 .left))
 
-past-4 : (c : tie.Else5) → Past 4 (c .before .before .before .before .before)
+past-4 : (c : tie.Else5) → Past 4 (behind-4 c)
 unfolding pathQuestions bufferQuestions validAxes
 past-4 c = past-3 (c .before .before) ∙ yes-to _ _ (rw (le-leb 1 _ (c .before .if4 .left), le-leb _ 8 (c .if5 .left)))
 
@@ -64,34 +71,35 @@ returns-6 : tie.Need-returns-6
 unfolding pathQuestions bufferQuestions
 returns-6 c = sym (past-4 (c .before .before) ∙ no-to _ (rw (no (c .before .valid-range .ensures) (c .if6 .taken))))
 
-past-5 : (c : tie.Else7) → Past 5 (c .before .before .before .before .before .before .before .before .before)
+past-5 : (c : tie.Else7) → Past 5 (behind-5 c)
 unfolding pathQuestions bufferQuestions
 past-5 c =
     let d = c .before .before in
     past-4 (d .before .before) ∙ yes-to _ _ (both (yes (d .before .valid-range .ensures) (d .if6 .left)) (equal _ (c .before .inv-ds .ensures) (c .if7 .left)))
 
-past-6 : (c : tie.Else8) → Past 6 (c .before .before .before .before .before .before .before .before .before .before)
+past-6 : (c : tie.Else8) → Past 6 (behind-5 (c .before))
 unfolding pathQuestions bufferQuestions
 past-6 c = past-5 (c .before) ∙ yes-to _ _ (eq-eqb _ _ (c .if8 .left))
 
-past-7 : (c : tie.Else9) → Past 7 (c .before .before .before .before .before .before .before .before .before .before .before .before)
+past-7 : (c : tie.Else9) → Past 7 (behind-5 (c .before .before .before))
 unfolding pathQuestions bufferQuestions
 past-7 c = past-6 (c .before .before) ∙ yes-to _ _ (yes (c .before .valid-level .ensures) (c .if9 .left))
 
-past-8 : (c : tie.Else10) → Past 8 (c .before .before .before .before .before .before .before .before .before .before .before .before .before .before)
+past-8 : (c : tie.Else10) → Past 8 (behind-5 (c .before .before .before .before .before))
 unfolding pathQuestions bufferQuestions
 past-8 c = past-7 (c .before .before) ∙ yes-to _ _ (yes (c .before .valid-lengths .ensures) (c .if10 .left))
 
 -- behind the first four questions the numbers are small
-order-bound : (c : tie.Else5) → start (c .before .before .before .before .before) .args .path .order ≤ 7
+order-bound : (c : tie.Else5) → start (behind-4 c) .args .path .order ≤ 7
 order-bound c =
     let d = c .before .before .before .before in
-    by-order (λ order. order ≤ 7) (omega arith) (omega arith) (omega arith) (start (d .before) .args .path .order) (subst T (sym (yes (d .before .valid-order .ensures) (d .if1 .left))) tt)
+    by-order (λ order. order ≤ 7) (omega arith) (omega arith) (omega arith)
+    (start (d .before) .args .path .order) (subst T (sym (yes (d .before .valid-order .ensures) (d .if1 .left))) tt)
 
-segments-bound : (c : tie.Else5) → let p = start (c .before .before .before .before .before) .args .path in p .axes * p .segments ≤ 8 * 256
+segments-bound : (c : tie.Else5) → let p = start (behind-4 c) .args .path in p .axes * p .segments ≤ 8 * 256
 segments-bound c = mul-le-mul (c .if5 .left) (c .before .before .if3 .left)
 
-table-bound : (c : tie.Else5) → let p = start (c .before .before .before .before .before) .args .path in p .axes * p .segments * (p .order + 1) ≤ 8 * 256 * 8
+table-bound : (c : tie.Else5) → let p = start (behind-4 c) .args .path in p .axes * p .segments * (p .order + 1) ≤ 8 * 256 * 8
 table-bound c = let h = order-bound c in mul-le-mul {m₂ = 8} (segments-bound c) (omega arith)
 
 returns : tie.Need-returns
@@ -118,7 +126,10 @@ returns-7 : tie.Need-returns-7
 unfolding pathQuestions bufferQuestions
 returns-7 c =
     let d = c .before .before in
-    sym (past-4 (d .before .before) ∙ no-to _ (sym (last-decides (yes (d .before .valid-range .ensures) (d .if6 .left)) (sym (unequal _ (c .before .inv-ds .ensures) (c .if7 .taken))))))
+    sym (past-4 (d .before .before)
+    ∙ no-to _ (sym (last-decides
+    (yes (d .before .valid-range .ensures) (d .if6 .left))
+    (sym (unequal _ (c .before .inv-ds .ensures) (c .if7 .taken))))))
 
 mul-if8 : tie.Need-mul-if8
 mul-if8 c = let h = segments-bound (c .before .before .before .before) in record { fits = omega arith }

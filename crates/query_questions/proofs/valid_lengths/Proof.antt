@@ -14,14 +14,22 @@ returns-3 : tie.Need-returns-3
 returns-3 c =
     let e = c .before .before in
     let d = e .before .before in
-    simp (yes (d .before .valid-length .ensures) (d .if1 .left), yes (e .before .valid-length2 .ensures) (e .if2 .left), no (c .before .valid-length3 .ensures) (c .if3 .taken))
+    simp (
+      yes (d .before .valid-length .ensures) (d .if1 .left),
+      yes (e .before .valid-length2 .ensures) (e .if2 .left),
+      no (c .before .valid-length3 .ensures) (c .if3 .taken),
+    )
 
 returns-4 : tie.Need-returns-4
 returns-4 c =
     let f = c .before in
     let e = f .before .before in
     let d = e .before .before in
-    last-decides (both (both (yes (d .before .valid-length .ensures) (d .if1 .left)) (yes (e .before .valid-length2 .ensures) (e .if2 .left))) (yes (f .before .valid-length3 .ensures) (f .if3 .left))) (c .valid-length4 .ensures)
+    last-decides
+    (both
+    (both (yes (d .before .valid-length .ensures) (d .if1 .left)) (yes (e .before .valid-length2 .ensures) (e .if2 .left)))
+    (yes (f .before .valid-length3 .ensures) (f .if3 .left)))
+    (c .valid-length4 .ensures)
 
 pub valid-lengths-spec : {M : Type 1} → statement M
 valid-lengths-spec =
