@@ -12,7 +12,7 @@ use Rattle.rules.specs.Solve.{entry, matrix, pivotRow, exchange, exchanged, eli
 use Rattle.law_lists.proofs.Lists.{length-listed}
 use Rattle.law_lists.proofs.Filling.{listed-at}
 use Rattle.rules.proofs.Matrices.{length-matrix}
-use Rattle.build_factoring.proofs.Exchange.{exchange-below}
+use Rattle.build_pivots.proofs.Exchange.{exchange-below}
 
 pivot-below : (m : ℕ) (a : List Float) (k d : ℕ) → k + d < m → pivotRow m a k d < m
 unfolding pivotRow

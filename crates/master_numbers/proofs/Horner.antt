@@ -15,7 +15,7 @@ use Rattle.law_integers.proofs.Laws.{natAbs-+ℤ, natAbs-*ℤ, one-*ℤ, +ℤ-*
 use Rattle.law_lists.specs.Lists.{every}
 use Rattle.rules.specs.Master.{at, coefficient, atEnd, binomial, sumℤ, within}
 use Rattle.law_lists.proofs.Lists.{below-suc, every-at}
-use Rattle.theorems.proofs.Sums.{sum-same, sum-add, sum-split, sum-first, sum-zero}
+use Rattle.theorem_exact.proofs.Sums.{sum-same, sum-add, sum-split, sum-first, sum-zero}
 use Rattle.master_numbers.specs.Sums.{Summable, AddedUp, sumFrom}
 
 -- ---- binomials

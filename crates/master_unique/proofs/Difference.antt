@@ -12,7 +12,7 @@ use Rattle.law_integers.proofs.Laws.{difference-zero}
 use Rattle.law_integers.proofs.Ring.{var, _:+_, _:-_, _:*_, identity}
 use Rattle.rules.specs.Tables.{mOf}
 use Rattle.rules.specs.Master.{setOf, at, coefficient, binomial, sumℤ, atEnd}
-use Rattle.theorems.proofs.Sums.{sum-same}
+use Rattle.theorem_exact.proofs.Sums.{sum-same}
 use Rattle.master_unique.proofs.Energy.{endOf, energy-of}
 use Rattle.master_unique.proofs.Zero.{Homogeneous, only-zero}
 use Rattle.master_unique.proofs.Good.{Good}

@@ -19,7 +19,7 @@ use Rattle.rules.specs.Tables.{mOf}
 use Rattle.rules.specs.Master.{binomial, sumℤ}
 use Rattle.law_lists.proofs.Lists.{below-suc}
 use Rattle.rules.proofs.Build.{by-order}
-use Rattle.theorems.proofs.Sums.{sum-same, sum-zero}
+use Rattle.theorem_exact.proofs.Sums.{sum-same, sum-zero}
 
 -- ---- the boundary form of a segment with the coefficients x 0, .., x (2m + 1)
 

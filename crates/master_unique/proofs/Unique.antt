@@ -14,8 +14,8 @@ use Rattle.rules.specs.declared.MasterAnswer.{MasterAnswer}
 use Rattle.rules.specs.declared.MasterAnswer.the-variants.{Yes}
 use Rattle.rules.specs.Tables.{mOf}
 use Rattle.rules.specs.Master.{MasterSet, MasterSays, setOf, at, coefficient, atEnd, checkMaster, masterSays}
-use Rattle.theorems.specs.Exact.{axisSet}
-use Rattle.theorems.proofs.Masters.{two-points-checked}
+use Rattle.theorem_exact.specs.Exact.{axisSet}
+use Rattle.theorem_evaluation.proofs.Masters.{two-points-checked}
 use Rattle.master_unique.specs.Unique.{MastersAreUnique, TwoCallsThatSaidYes, TwoPointMastersAreBuilt}
 use Rattle.master_unique.proofs.Good.{Good, good}
 use Rattle.master_unique.proofs.Difference.{tables-equal}

@@ -9,7 +9,7 @@ use native.Mathlib.Omega.{arith}
 use lib.IntN.{ℤ, pos, natAbs, _+ℤ_, _*ℤ_, *ℤ-zero}
 use Rattle.rules.specs.Master.{binomial}
 use Rattle.law_lists.proofs.Lists.{below-suc}
-use Rattle.theorems.proofs.Sums.{sum-same, sum-zero}
+use Rattle.theorem_exact.proofs.Sums.{sum-same, sum-zero}
 use Rattle.master_unique.proofs.Energy.{endOf, W, W-zero, W-same, Energy, segmentEnergy, energy-by-parts, upper-zero}
 
 -- the equations of the segments 0 to last, where d i k is coefficient k of segment i

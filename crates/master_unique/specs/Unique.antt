@@ -14,7 +14,7 @@ use Rattle.rules.specs.declared.MasterAnswer.the-variants.{Yes}
 use Rattle.law_lists.specs.Lists.{all}
 use Rattle.rules.specs.Build.{BuildInput, buildNumber}
 use Rattle.rules.specs.Master.{MasterSet, setOf, within, checkMaster, masterSays}
-use Rattle.theorems.specs.Exact.{WholeTwoPoints, axisSet}
+use Rattle.theorem_exact.specs.Exact.{WholeTwoPoints, axisSet}
 
 -- D3, M11: of any two sets. The check says yes to none whose order is not 3, 5 or 7.
 unfoldable pub MastersAreUnique : Type 0
@@ -31,7 +31,7 @@ TwoCallsThatSaidYes =
     → answer ≡ Yes → answer′ ≡ Yes
     → (table ≡ table′) ↔ ((waypoints ≡ waypoints′) × (start ≡ start′) × (end ≡ end′))
 
--- The link to the build. By `TwoPointsAreExact` (crates/theorems/specs/Exact.antt) the check says yes to what an accepted two-point build of
+-- The link to the build. By `TwoPointsAreExact` (crates/theorem_exact/specs/Exact.antt) the check says yes to what an accepted two-point build of
 -- whole numbers wrote for an axis, where that is within ±2^40. So of the masters with that axis's order, points and states this one is all there is.
 unfoldable pub TwoPointMastersAreBuilt : Type 0
 TwoPointMastersAreBuilt =

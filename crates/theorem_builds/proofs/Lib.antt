@@ -1,0 +1,3 @@
+pub mod AxisPart
+pub mod Independent
+pub mod Served

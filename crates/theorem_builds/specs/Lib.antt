@@ -1,0 +1,2 @@
+pub mod Independent
+pub mod Served
