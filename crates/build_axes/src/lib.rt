@@ -1,5 +1,5 @@
 // All axes of a build: question 10, which factoring answers, and where it says yes the coefficients. The questions before are
-// answered (crates/questions), and no cell is written before the last.
+// answered (crates/build_questions), and no cell is written before the last.
 ghost use mathlib.Core.Path.{_≡_};
 ghost use mathlib.Core.Bool.{cond};
 ghost use Prim.Native.Nat.{_+_, _*_, _≤_};

@@ -1,6 +1,6 @@
 -- What the functions of one inner node are lent, and what they leave. Assumes nothing.
 use mathlib.Core.Path.{_≡_}
-use Prim.Native.Nat.{ℕ, _+_, _-_, _*_, _≤_}
+use Prim.Native.Nat.{ℕ, _+_, _-_, _*_, _<_, _≤_}
 use mathlib.Core.Bool.{cond}
 use mathlib.Core.List.{List, _++_}
 use lib.ListN.{length, take, drop}
@@ -9,6 +9,18 @@ use lib.Ieee.{Float}
 use Rattle.rules.specs.Tables.{A}
 use Rattle.rules.specs.Solve.{times, minus, nodeFactors}
 use Rattle.rules.specs.Build.{boundedSide, solvedSide}
+use Rattle.build_products.specs.Columns.{HoldsA, HoldsC, HoldsR}
+use Rattle.build_plan.specs.declared.Plan.{Plan}
+
+-- what the right side at inner node i is made of, and room for it
+pub record SideLent (p : Plan) (r a c boundary : List Float) (i : ℕ) (side : List Float) : Type 0 where
+  pub some : 1 ≤ p .m
+  pub holds-r : HoldsR (p .m) r
+  pub holds-a : HoldsA (p .m) a
+  pub holds-c : HoldsC (p .m) c
+  pub ends : p .m + p .m ≤ length boundary
+  pub inner : i < p .n
+  pub room : length side ≡ p .m
 
 -- the factored matrix of an inner node and its rows, among those of all
 pub record NodeAt (m i : ℕ) (entries : List Float) (rows : List ℕ) : Type 0 where

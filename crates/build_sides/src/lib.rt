@@ -8,9 +8,9 @@ ghost use lib.ListN.{length};
 ghost use lib.Ieee.{Float};
 ghost use Rattle.rules.specs.Solve.{times, minus, solve, nodeFactors};
 ghost use Rattle.rules.specs.Build.{dy, boundedSide, solvedSide};
-ghost use Rattle.build_products.specs.Columns.{transposed, HoldsA, HoldsC, HoldsR};
+ghost use Rattle.build_products.specs.Columns.{transposed};
 ghost use Rattle.build_plan.specs.Given.{firstOf, lastOf};
-ghost use Rattle.build_sides.specs.Node.{NodeAt, part, put, fullSide};
+ghost use Rattle.build_sides.specs.Node.{SideLent, NodeAt, part, put, fullSide};
 use build_plan::Plan;
 use build_segments::compute_rhs;
 
@@ -42,13 +42,7 @@ fn bounded_side(
     i: usize,
     side: &mut [f64],
 )
-    requires { ⌜ (1 ≤ plan .m)
-        × HoldsR (plan .m) (now r)
-        × HoldsA (plan .m) (now a)
-        × HoldsC (plan .m) (now c)
-        × (plan .m + plan .m ≤ length (now boundary))
-        × (i < plan .n)
-        × (length (now side) ≡ plan .m) ⌝ }
+    requires { ⌜ SideLent plan (now r) (now a) (now c) (now boundary) i (now side) ⌝ }
     ensures { λ x. ⌜ ((w : List Float) → dy w i ≡ «dy_prev» → dy w (suc i) ≡ «dy_next»
         → now (side .exit)
         ≡ boundedSide (plan .m) (plan .n) w (firstOf (plan .m) (now (boundary .entry))) (lastOf (plan .m) (now (boundary .entry))) i) ⌝ }
@@ -84,13 +78,7 @@ pub fn full_side(
     solved: &[f64],
     side: &mut [f64],
 )
-    requires { ⌜ (1 ≤ plan .m)
-        × HoldsR (plan .m) (now r)
-        × HoldsA (plan .m) (now a)
-        × HoldsC (plan .m) (now c)
-        × (plan .m + plan .m ≤ length (now boundary))
-        × (i < plan .n)
-        × (length (now side) ≡ plan .m)
+    requires { ⌜ SideLent plan (now r) (now a) (now c) (now boundary) i (now side)
         × (i * plan .m ≤ length (now solved))
         × ((i - 1) * plan .m + plan .m ≤ length (now solved)) ⌝ }
     ensures { λ x. ⌜ (let first = firstOf (plan .m) (now (boundary .entry)) in

@@ -9,11 +9,9 @@ ghost use lib.Ieee.{Float};
 ghost use Rattle.law_lists.specs.Lists.{joined};
 ghost use Rattle.rules.specs.Solve.{times, minus, solvedC};
 ghost use Rattle.rules.specs.Build.{solvedSide, innerNumbers, axisCoefficients};
-ghost use Rattle.build_products.specs.Columns.{HoldsA, HoldsC, HoldsR, HoldsH};
 ghost use Rattle.build_plan.specs.Given.{firstOf, lastOf};
-ghost use Rattle.build_tables.specs.Tables.{Matrices};
 ghost use Rattle.build_sides.specs.Node.{part, put};
-ghost use Rattle.build_thomas.specs.Axis.{AxisOf, waypointsOf, NodeFactors, NodeSolved, segmentOf};
+ghost use Rattle.build_thomas.specs.Axis.{waypointsOf, NodeSolved, SweepLent, SegmentsLent, RowLent, segmentOf};
 use build_plan::Plan;
 use build_segments::dy;
 use build_segments::node_numbers;
@@ -37,15 +35,8 @@ fn forward_sweep(
     side: &mut [f64],
     solved: &mut [f64],
 )
-    requires { ⌜ (1 ≤ plan .m)
-        × HoldsR (plan .m) (now r)
-        × HoldsA (plan .m) (now a)
-        × HoldsC (plan .m) (now c)
-        × NodeFactors (plan .m) (plan .n) (now entries) (now rows)
-        × AxisOf plan axis (now waypoints)
-        × (plan .m + plan .m ≤ length (now boundary))
-        × (length (now side) ≡ plan .m)
-        × (plan .n * plan .m ≤ length (now solved)) ⌝ }
+    requires { ⌜ SweepLent plan (now r) (now a) (now c) (now entries) (now rows) (now waypoints) axis
+        (now boundary) (now side) (now solved) ⌝ }
     ensures { λ x. ⌜ (let w = waypointsOf plan (now (waypoints .entry)) axis in
         let first = firstOf (plan .m) (now (boundary .entry)) in
         let last = lastOf (plan .m) (now (boundary .entry)) in
@@ -115,12 +106,7 @@ fn write_segments<'a>(
     solved: &'a [f64],
     chunk: &mut [f64],
 )
-    requires { ⌜ (1 ≤ plan .m)
-        × HoldsH (plan .m) (now «h_coeff»)
-        × AxisOf plan axis (now waypoints)
-        × (plan .m + plan .m ≤ length (now boundary))
-        × (plan .n * plan .m ≤ length (now solved))
-        × (length (now chunk) ≡ (plan .n + 1) * (2 * plan .m + 2)) ⌝ }
+    requires { ⌜ SegmentsLent plan (now «h_coeff») (now waypoints) axis (now boundary) (now solved) (now chunk) ⌝ }
     ensures { λ x. ⌜ now (chunk .exit)
         ≡ joined (plan .n + 1)
         (segmentOf (plan .m) (plan .n) (waypointsOf plan (now (waypoints .entry)) axis) (now (boundary .entry)) (now (solved .entry))) ⌝ }
@@ -159,15 +145,8 @@ pub fn thomas_row(
     solved: &mut [f64],
     chunk: &mut [f64],
 )
-    requires { ⌜ (1 ≤ plan .m)
-        × (plan .m ≤ 3)
-        × Matrices (plan .m) tables
-        × NodeFactors (plan .m) (plan .n) (now entries) (now rows)
-        × NodeSolved (plan .m) (plan .n) (now «solved_c»)
-        × AxisOf plan axis (now waypoints)
-        × (plan .m + plan .m ≤ length (now boundary))
-        × (plan .n * plan .m ≤ length (now solved))
-        × (length (now chunk) ≡ (plan .n + 1) * (2 * plan .m + 2)) ⌝ }
+    requires { ⌜ RowLent plan tables (now entries) (now rows) (now «solved_c») (now waypoints) axis
+        (now boundary) (now solved) (now chunk) ⌝ }
     ensures { λ x. ⌜ (let w = waypointsOf plan (now (waypoints .entry)) axis in
         let first = firstOf (plan .m) (now (boundary .entry)) in
         let last = lastOf (plan .m) (now (boundary .entry)) in

@@ -90,18 +90,20 @@ thomas-row-requires c κs =
     let (shared, room, long) = start at .pre in
     let given = shared .given in
     let size = cells (start at .args .plan) in
-    let coeffs = at .loop .coeffs in (
-      given .some,
-      given .few,
-      shared .tables,
-      shared .factors,
-      shared .solved,
-      record { few-nodes = given .few-nodes; axis-below = turned .loop-test .taken; waypoints-length = given .waypoints-length },
-      omega (arith, given .few, c .before .before .before .ends2 .given),
-      omega (arith, at .loop .inv .2, room),
-      ap length (part-size (at .loop .axis * size) size coeffs)
-          ∙ part-length (at .loop .axis * size) size coeffs (omega (arith, inside turned .0, kept (at .loop .inv .0), long)),
-    )
+    let coeffs = at .loop .coeffs in
+    record {
+      some = given .some;
+      few = given .few;
+      tables = shared .tables;
+      factors = shared .factors;
+      solved-c = shared .solved;
+      of-axis = record { few-nodes = given .few-nodes; axis-below = turned .loop-test .taken; waypoints-length = given .waypoints-length };
+      ends = omega (arith, given .few, c .before .before .before .ends2 .given);
+      solved-room = omega (arith, at .loop .inv .2, room);
+      cells =
+          ap length (part-size (at .loop .axis * size) size coeffs)
+          ∙ part-length (at .loop .axis * size) size coeffs (omega (arith, inside turned .0, kept (at .loop .inv .0), long));
+    }
 
 -- what a turn leaves for its axis
 made : (c : tie.After-slice-known4 Inv-loop μ-loop)

@@ -33,21 +33,21 @@ subtract-where-requires : tie.Need-subtract-where-requires
 subtract-where-requires c κs =
     let p = start (computed c .before) in
     let m = p .args .plan .m in
-    (p .pre .0, columns-long (p .pre .2), rw sub-zero (part-length 0 m (p .args .boundary .now) (omega arith)), omega arith)
+    (p .pre .some, columns-long (p .pre .holds-a), rw sub-zero (part-length 0 m (p .args .boundary .now) (omega arith)), omega arith)
 
 subtract-where-requires-2 : tie.Need-subtract-where-requires-2
 subtract-where-requires-2 c κs =
     let p = start (computed (first c .before) .before) in
     let m = p .args .plan .m in
     let boundary = p .args .boundary .now in
-    (p .pre .0, columns-long (p .pre .3), ap length (part-size m m boundary) ∙ part-length m m boundary (omega arith), omega arith)
+    (p .pre .some, columns-long (p .pre .holds-c), ap length (part-size m m boundary) ∙ part-length m m boundary (omega arith), omega arith)
 
 returns : tie.Need-returns
 returns c =
     let two = c .before .before in
     let one = first (two .before) in
     let made = computed (one .before) in
-    let (some, r, a, c′, room, below, long) = start (made .before) .pre in
+    let lent = start (made .before) .pre in
     let args = start (made .before) .args in
     let m = args .plan .m in
     let n = args .plan .n in
@@ -59,13 +59,13 @@ returns c =
     two .subtract-where2 .ensures
     ∙ ap at-last (one .subtract-where .ensures ∙ ap at-first (made .compute-rhs .ensures))
     ∙ rw (sub-zero, part-size)
-    (bounded-is r a c′ n w (firstOf m boundary) (lastOf m boundary) (args .i) (args .dy-prev) (args .dy-next) p q)
+    (bounded-is (lent .holds-r) (lent .holds-a) (lent .holds-c) n w (firstOf m boundary) (lastOf m boundary) (args .i) (args .dy-prev) (args .dy-next) p q)
 
 pub bounded-side-spec : {M : Type 1} → statement M
 bounded-side-spec =
     tie.close
     (tie.spec
-    (λ c κs. let p = start c in (rows-long (p .pre .1), p .pre .6))
+    (λ c κs. let p = start c in (rows-long (p .pre .holds-r), p .pre .room))
     (λ c. search needs)
     (λ c. search needs)
     (λ c. search needs)

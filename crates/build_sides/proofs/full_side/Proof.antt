@@ -37,7 +37,7 @@ subtract-where-requires c κs =
     let m = p .args .plan .m in
     let at = found c .previous .result in
     let solved = p .args .solved .now in
-    (p .pre .0, columns-long (p .pre .2), ap length (part-size at m solved) ∙ part-length at m solved (omega arith), omega arith)
+    (p .pre .0 .some, columns-long (p .pre .0 .holds-a), ap length (part-size at m solved) ∙ part-length at m solved (omega arith), omega arith)
 
 returns : tie.Need-returns
 returns c =
@@ -55,7 +55,7 @@ returns c =
     third .subtract-where .ensures
     ∙ ap₂ less (bounded second .bounded-side .ensures w d e)
     (part-size (second .previous .result) m solved ∙ ap (λ (k : ℕ). take m (drop k solved)) (second .previous .ensures))
-    ∙ rw (columns-are (p .pre .2))
+    ∙ rw (columns-are (p .pre .0 .holds-a))
     (past-first m (args .i) (boundedSide m n w from to (args .i)) (A m) (part m solved (args .i - 1)) (solvedSide m n w from to (args .i - 1)) s)
 
 pub full-side-spec : {M : Type 1} → statement M

@@ -69,10 +69,10 @@ inside c =
     let room : i * m + m ≤ start .args .plan .n * m = part-inside m h in
     let last : (i - 1) * m + m ≤ start .args .plan .n * m = part-inside m (omega arith) in
     let size : length (c .before .loop .solved) ≡ length (start .args .solved .now) = kept (c .before .loop .inv .0) in
-    (omega (arith, start .pre .8), omega (arith, start .pre .8), omega (arith, start .pre .8))
+    (omega (arith, start .pre .solved-room), omega (arith, start .pre .solved-room), omega (arith, start .pre .solved-room))
 
 dy-requires : tie.Need-dy-requires Inv-loop μ-loop
-dy-requires c κs = let start = entry c in (start .pre .5 .axis-below, point-inside (start .pre .5) 1 (omega arith))
+dy-requires c κs = let start = entry c in (start .pre .of-axis .axis-below, point-inside (start .pre .of-axis) 1 (omega arith))
 
 loop-holds : tie.Need-loop-holds Inv-loop μ-loop
 loop-holds c =
@@ -82,25 +82,36 @@ loop-holds c =
       none (p .m) _ (args .solved .now) (length-solvedSide (p .m) (p .n) _ _ _),
       omega arith,
       points-dy p (args .waypoints .now) (args .axis) 0 (omega arith) ∙ sym (c .dy .ensures),
-      start .pre .7,
+      start .pre .side-room,
     )
 
 dy-requires-2 : tie.Need-dy-requires-2 Inv-loop μ-loop
 dy-requires-2 c κs =
     let start = begun (c .before) in
-    (start .pre .5 .axis-below, point-inside (start .pre .5) (suc (c .before .loop .i + 1)) (omega (arith, c .loop-test .taken)))
+    (start .pre .of-axis .axis-below, point-inside (start .pre .of-axis) (suc (c .before .loop .i + 1)) (omega (arith, c .loop-test .taken)))
 
 full-side-requires : tie.Need-full-side-requires Inv-loop μ-loop
 full-side-requires c κs =
     let turn = told c .before in
-    let (some, r, a, c′, nodes, axis, ends, side, room) = begun (turn .before) .pre in
-    (some, r, a, c′, ends, turn .loop-test .taken, turn .before .loop .inv .3, inside turn .0, inside turn .1)
+    let lent = begun (turn .before) .pre in (
+      record {
+        some = lent .some;
+        holds-r = lent .holds-r;
+        holds-a = lent .holds-a;
+        holds-c = lent .holds-c;
+        ends = lent .ends;
+        inner = turn .loop-test .taken;
+        room = turn .before .loop .inv .3;
+      },
+      inside turn .0,
+      inside turn .1,
+    )
 
 solve-node-requires : tie.Need-solve-node-requires Inv-loop μ-loop
 solve-node-requires c κs =
     let turn = turned c in
     let at = turn .before in
-    (node-at (begun at .pre .4) (at .loop .i) (turn .loop-test .taken), omega (arith, at .loop .inv .3), omega (arith, inside turn .2))
+    (node-at (begun at .pre .factors) (at .loop .i) (turn .loop-test .taken), omega (arith, at .loop .inv .3), omega (arith, inside turn .2))
 
 loop-again : tie.Need-loop-again Inv-loop μ-loop
 loop-again c =
@@ -125,7 +136,7 @@ loop-again c =
           (step (inv .0)
           (ap (solve m (nodeFactors m i)) (full .full-side .ensures w (inv .2) next (λ q. part-at (inv .0) (i - 1) (omega arith)))
           ∙ sym (solved-is m (p .n) w from to i))
-          (rw next-part (le-trans (part-inside m h) (start .pre .8)))),
+          (rw next-part (le-trans (part-inside m h) (start .pre .solved-room)))),
       omega arith,
       rw add-one next,
       omega (arith, inv .3, node .before .before .before .before .side .given),
@@ -145,11 +156,11 @@ forward-sweep-spec =
     μ-loop
     dy-requires
     loop-holds
-    (λ c. omega (arith, begun (c .before) .pre .5 .few-nodes, c .loop-test .taken))
+    (λ c. omega (arith, begun (c .before) .pre .of-axis .few-nodes, c .loop-test .taken))
     dy-requires-2
     full-side-requires
     solve-node-requires
-    (λ c. let turn = turned (c .before .before .before) in omega (arith, turn .loop-test .taken, begun (turn .before) .pre .5 .few-nodes))
+    (λ c. let turn = turned (c .before .before .before) in omega (arith, turn .loop-test .taken, begun (turn .before) .pre .of-axis .few-nodes))
     (λ c. search needs)
     loop-again
     (λ c. search needs)

@@ -41,27 +41,44 @@ same-solved : (c : tie.After-write-segments-arg3)
 same-solved c = omega (arith, c .before .before .before .before .before .solved2 .given, back c .before .before .before .before .solved .given)
 
 few : (p : tie.Start) → p .args .plan .m ≤ 3
-few p = p .pre .1
+few p = p .pre .few
 
 forward-sweep-requires : tie.Need-forward-sweep-requires
 forward-sweep-requires c κs =
     let p = start (tabled c) in
-    let (some, most, tables, nodes, solved-c, axis, ends, room, cells) = p .pre in
-    (some, r-lent tables, a-lent tables, c-lent tables, nodes, axis, ends, start-length (p .args .plan .m) _ most, room)
+    let lent = p .pre in
+    record {
+      some = lent .some;
+      holds-r = r-lent (lent .tables);
+      holds-a = a-lent (lent .tables);
+      holds-c = c-lent (lent .tables);
+      factors = lent .factors;
+      of-axis = lent .of-axis;
+      ends = lent .ends;
+      side-room = start-length (p .args .plan .m) _ (lent .few);
+      solved-room = lent .solved-room;
+    }
 
 back-sweep-requires : tie.Need-back-sweep-requires
 back-sweep-requires c κs =
     let f = forth c in
     let p = start (tabled (f .before)) in
-    (p .pre .0, p .pre .4, start-length (p .args .plan .m) _ (few p), omega (arith, p .pre .7, c .before .before .before .solved .given))
+    (p .pre .some, p .pre .solved-c, start-length (p .args .plan .m) _ (few p), omega (arith, p .pre .solved-room, c .before .before .before .solved .given))
 
 write-segments-requires : tie.Need-write-segments-requires
 write-segments-requires c κs =
     let b = back c in
     let f = forth (b .before) in
     let p = start (tabled (f .before)) in
-    let (some, most, tables, nodes, solved-c, axis, ends, room, cells) = p .pre in
-    (some, h-lent tables, axis, ends, omega (arith, room, same-solved c), cells)
+    let lent = p .pre in
+    record {
+      some = lent .some;
+      holds-h = h-lent (lent .tables);
+      of-axis = lent .of-axis;
+      ends = lent .ends;
+      solved-room = omega (arith, lent .solved-room, same-solved c);
+      cells = lent .cells;
+    }
 
 returns : tie.Need-returns
 returns c =
@@ -95,13 +112,13 @@ thomas-row-spec =
     (λ c. search needs)
     (λ c. search needs)
     (λ c. search needs)
-    (λ c. r-room (start (c .before) .pre .2))
+    (λ c. r-room (start (c .before) .pre .tables))
     (λ c. search needs)
     (λ c. search needs)
-    (λ c. a-room (start (c .before .before .before) .pre .2))
+    (λ c. a-room (start (c .before .before .before) .pre .tables))
     (λ c. search needs)
     (λ c. search needs)
-    (λ c. c-room (start (c .before .before .before .before .before) .pre .2))
+    (λ c. c-room (start (c .before .before .before .before .before) .pre .tables))
     (λ c. search needs)
     (λ c. search needs)
     (λ c. omega (arith, few (start (c .before .before .before .before .before .before))))
@@ -112,7 +129,7 @@ thomas-row-spec =
     back-sweep-requires
     (λ c. search needs)
     (λ c. search needs)
-    (λ c. h-room (start (tabled (forth (c .before .before .before .before .before) .before)) .pre .2))
+    (λ c. h-room (start (tabled (forth (c .before .before .before .before .before) .before)) .pre .tables))
     write-segments-requires
     (λ c. same-solved (c .before .before .before))
     (λ c. search needs)

@@ -45,12 +45,12 @@ written c = c .before .before
 -- the part that a turn is about is inside
 inside : (c : tie.In-loop Inv-loop μ-loop)
     → (let p = begun (c .before) .args .plan in c .before .loop .i * (2 * p .m + 2) + (2 * p .m + 2) ≤ length (begun (c .before) .args .chunk .now))
-inside c = let p = begun (c .before) in rw (p .pre .5) (part-inside (2 * p .args .plan .m + 2) (c .loop-test .taken))
+inside c = let p = begun (c .before) in rw (p .pre .cells) (part-inside (2 * p .args .plan .m + 2) (c .loop-test .taken))
 
 -- and a node has m numbers
 node-length : (c : tie.Start Inv-loop μ-loop) (i : ℕ)
     → length (nodePart (c .args .plan .m) (c .args .plan .n) (c .args .boundary .now) (c .args .solved .now) i) ≡ c .args .plan .m
-node-length c i = length-part (c .args .plan .m) (c .args .plan .n) (c .args .boundary .now) (c .args .solved .now) (c .pre .3) (c .pre .4) i
+node-length c i = length-part (c .args .plan .m) (c .args .plan .n) (c .args .boundary .now) (c .args .solved .now) (c .pre .ends) (c .pre .solved-room) i
 
 same-segment : (m : ℕ) {y y′ d d′ : Float} {u u′ v v′ : List Float} → y ≡ y′ → d ≡ d′ → u ≡ u′ → v ≡ v′
     → segmentCoefficients m y d u v ≡ segmentCoefficients m y′ d′ u′ v′
@@ -62,14 +62,14 @@ loop-holds c = (omega arith, none _ _ _ (λ j. length-segment _ _ _ _ _ (node-le
 dy-requires : tie.Need-dy-requires Inv-loop μ-loop
 dy-requires c κs =
     let p = begun (c .before .before) in
-    (p .pre .2 .axis-below, point-inside (p .pre .2) (suc (c .before .before .loop .i)) (omega arith))
+    (p .pre .of-axis .axis-below, point-inside (p .pre .of-axis) (suc (c .before .before .loop .i)) (omega arith))
 
 write-segment-coeffs-requires : tie.Need-write-segment-coeffs-requires Inv-loop μ-loop
 write-segment-coeffs-requires c κs =
     let at = turn (c .before) .before in
     let p = begun at in (
-      p .pre .0,
-      p .pre .1,
+      p .pre .some,
+      p .pre .holds-h,
       ap length (c .before .before .node-numbers .ensures) ∙ node-length p (at .loop .i),
       ap length (c .before .node-numbers2 .ensures) ∙ node-length p (at .loop .i + 1),
       omega (arith, c .write-segment-coeffs-arg .given .2),
@@ -102,9 +102,9 @@ write-segments-spec =
     (λ c. search needs)
     (λ c. search needs)
     loop-holds
-    (λ c. omega (arith, begun c .pre .2 .few-nodes))
+    (λ c. omega (arith, begun c .pre .of-axis .few-nodes))
     (λ c. omega (arith, inside c))
-    (λ c κs. point-inside (begun (c .before) .pre .2) (c .before .loop .i) (omega arith))
+    (λ c κs. point-inside (begun (c .before) .pre .of-axis) (c .before .loop .i) (omega arith))
     dy-requires
     (λ c κs. search needs)
     (λ c. search needs)
@@ -115,8 +115,8 @@ write-segments-spec =
     (λ c. search needs)
     (λ c. omega (arith, inside (turn c), kept (turn c .before .loop .inv .1)))
     write-segment-coeffs-requires
-    (λ c. let at = turn (written c .before .before) in omega (arith, at .loop-test .taken, begun (at .before) .pre .2 .few-nodes))
+    (λ c. let at = turn (written c .before .before) in omega (arith, at .loop-test .taken, begun (at .before) .pre .of-axis .few-nodes))
     (λ c. search needs)
     loop-again
     (λ c. kept (c .before .loop .inv .1))
-    (λ c. whole (c .before .loop .inv .1) (begun (c .before) .pre .5) (omega arith)))
+    (λ c. whole (c .before .loop .inv .1) (begun (c .before) .pre .cells) (omega arith)))
