@@ -8,7 +8,7 @@ use Rattle.build_plan.specs.declared.Plan.{Plan}
 use Rattle.build_tables.specs.declared.BlockMatrices.{BlockMatrices}
 use Rattle.build_plan.specs.Given.{Planned, endNumbers}
 use Rattle.build_tables.specs.Tables.{Matrices}
-use Rattle.build_thomas.specs.Axis.{waypointsOf, NodeFactors, NodeSolved}
+use Rattle.build_sweeps.specs.Axis.{waypointsOf, NodeFactors, NodeSolved}
 
 -- what all axes of a build share: what it is given, the tables, and the nodes' matrices
 pub record Shared (p : Plan) (t : BlockMatrices) (entries : List Float) (rows : List ℕ) (solvedC waypoints start end : List Float) : Type 0 where

@@ -4,22 +4,20 @@ use mathlib.Core.Path.{_≡_, refl, sym, ap, ap₂, _∙_}
 use mathlib.Core.List.{List, _++_}
 use mathlib.Core.Logic.{_⊎_, inl, inr}
 use Prim.Native.Nat.{ℕ, zero, suc, _+_, _-_, _*_, _<_, _≤_}
-use native.Mathlib.Omega.{arith}
 use borrow.Author.Tests.{lt-ltb, le-ltb}
 use lib.ListN.{length, take, drop}
 use lib.Seq.{drop-at}
 use lib.Ieee.{Float}
-use Rattle.rules.specs.Floats.{_⊖_, _!_, +0}
+use Rattle.rules.specs.Floats.{_!_}
 use Rattle.law_lists.specs.Lists.{joined}
-use Rattle.rules.specs.Build.{ofAxis, dy, segmentCoefficients, innerNumbers, nodeNumbers, axisCoefficients}
+use Rattle.rules.specs.Build.{dy, segmentCoefficients, innerNumbers, nodeNumbers, axisCoefficients}
 use Rattle.law_lists.proofs.Lists.{length-joined}
-use Rattle.law_lists.proofs.Filling.{lt-or-le, listed-at, joined-ext, parts-at}
+use Rattle.law_lists.proofs.Filling.{lt-or-le, joined-ext, parts-at}
 use Rattle.rules.proofs.Build.{length-inner}
-use Rattle.law_lists.proofs.Places.{cell-inside}
 use Rattle.build_plan.specs.declared.Plan.{Plan}
 use Rattle.build_plan.specs.Given.{firstOf, lastOf}
 use Rattle.build_segments.specs.NodeNumbers.{nodePart}
-use Rattle.build_thomas.specs.Axis.{AxisOf, waypointsOf, segmentOf}
+use Rattle.build_thomas.specs.Row.{segmentOf}
 
 -- rest is what the solved list has past the inner nodes' numbers
 module _ (p : Plan) (boundary solved w rest : List Float) where
@@ -59,17 +57,3 @@ module _ (p : Plan) (boundary solved w rest : List Float) where
   pub axis-is : solved ≡ joined n inner ++ rest → joined (n + 1) (segmentOf m n w boundary solved) ≡ axisCoefficients m n w first last
   unfolding axisCoefficients
   axis-is e = joined-ext (n + 1) _ _ (λ i h. ap₂ (segmentCoefficients m (w ! i) (dy w i)) (nodes-are e i) (nodes-are e (suc i)))
-
--- ---- the points of an axis
-
-module _ (p : Plan) (waypoints : List Float) (axis : ℕ) where
-  pub points-at : (k : ℕ) → k < p .n + 2 → waypointsOf p waypoints axis ! k ≡ ofAxis (p .axes) waypoints axis k
-  points-at k h = listed-at +0 (p .n + 2) _ k h
-
-  pub points-dy : (i : ℕ) → suc i < p .n + 2
-      → dy (waypointsOf p waypoints axis) i ≡ ofAxis (p .axes) waypoints axis (suc i) ⊖ ofAxis (p .axes) waypoints axis i
-  unfolding dy
-  points-dy i h = ap₂ _⊖_ (points-at (suc i) h) (points-at i (omega arith))
-
-pub point-inside : {p : Plan} {axis : ℕ} {waypoints : List Float} → AxisOf p axis waypoints → (k : ℕ) → k < p .n + 2 → k * p .axes + axis < length waypoints
-point-inside {p} h k l = rw (h .waypoints-length) (cell-inside (p .axes) l (h .axis-below))

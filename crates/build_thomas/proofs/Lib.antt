@@ -1,4 +1,2 @@
-pub mod AllNodes
 pub mod AxisIs
-pub mod Back
 pub mod Sizes

@@ -1,1 +1,1 @@
-pub mod Axis
+pub mod Row

@@ -11,7 +11,7 @@ use Rattle.law_lists.proofs.Places.{next-part}
 use Rattle.law_lists.proofs.PartedList.{Parted, none, kept, step, whole}
 use Rattle.law_lists.proofs.Lent.{part-size, part-length}
 use Rattle.build_plan.specs.declared.Plan.{Plan}
-use Rattle.build_thomas.specs.Axis.{waypointsOf}
+use Rattle.build_sweeps.specs.Axis.{waypointsOf}
 use Rattle.build_axes.specs.AllAxes.{axisTable}
 use Rattle.build_axes.proofs.Sizes.{stride-small, table-small}
 use borrow.Author.Needs.{needs}

@@ -2,7 +2,7 @@
 use mathlib.Core.Path.{refl, sym, _∙_}
 use native.Mathlib.Omega.{arith}
 use borrow.Author.Tests.{not-true, not-false}
-use Rattle.build_thomas.proofs.AllNodes.{node-factors, node-solved}
+use Rattle.build_sweeps.proofs.AllNodes.{node-factors, node-solved}
 use Rattle.build_tables.proofs.Matrices.{a-room, b-room, c-room, a-lent, b-lent, c-lent}
 use Rattle.build_thomas.proofs.Sizes.{matrix-small}
 use borrow.Author.Needs.{needs}

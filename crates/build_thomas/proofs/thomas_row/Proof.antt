@@ -14,7 +14,7 @@ use Rattle.rules.proofs.Build.{length-solvedSide}
 use Rattle.build_plan.specs.Given.{firstOf, lastOf}
 use Rattle.build_tables.proofs.Matrices.{a-room, c-room, r-room, h-room, a-lent, c-lent, r-lent, h-lent}
 use Rattle.law_lists.proofs.Lent.{start-length}
-use Rattle.build_thomas.specs.Axis.{waypointsOf}
+use Rattle.build_sweeps.specs.Axis.{waypointsOf}
 use Rattle.build_thomas.proofs.Sizes.{matrix-small, upper-small}
 use Rattle.build_thomas.proofs.AxisIs.{axis-is}
 use borrow.Author.Needs.{needs}

@@ -15,8 +15,8 @@ use Rattle.law_lists.proofs.Places.{next-part}
 use Rattle.law_lists.proofs.PartedList.{Parted, none, kept, step, whole}
 use Rattle.build_segments.specs.NodeNumbers.{nodePart}
 use Rattle.build_segments.proofs.NodeNumbers.{length-part}
-use Rattle.build_thomas.specs.Axis.{segmentOf}
-use Rattle.build_thomas.proofs.AxisIs.{points-at, points-dy, point-inside}
+use Rattle.build_thomas.specs.Row.{segmentOf}
+use Rattle.build_sweeps.proofs.Points.{points-at, points-dy, point-inside}
 use borrow.Author.Needs.{needs}
 use Rattle.build_thomas.proofs.write_segments.Statement.{statement}
 use Rattle.build_thomas.proofs.write_segments.Tie as tie

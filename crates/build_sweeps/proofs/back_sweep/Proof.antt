@@ -1,4 +1,4 @@
--- `build_thomas::back_sweep` meets its contract. The loop's invariant: from node i − 1 on the list has the nodes' numbers, and below the solved
+-- `build_sweeps::back_sweep` meets its contract. The loop's invariant: from node i − 1 on the list has the nodes' numbers, and below the solved
 -- right sides. Assumes nothing.
 use mathlib.Core.Path.{_≡_, sym, ap, _∙_}
 use mathlib.Core.List.{List, _++_}
@@ -9,10 +9,10 @@ use lib.ListN.{length, take, drop, take-append-drop}
 use lib.Ieee.{Float}
 use Rattle.law_lists.specs.Lists.{joined}
 use Rattle.rules.specs.Build.{solvedSide}
-use Rattle.build_thomas.proofs.Back.{stepped, swept, swept-start, swept-step, swept-end}
+use Rattle.build_sweeps.proofs.Back.{stepped, swept, swept-start, swept-step, swept-end}
 use borrow.Author.Needs.{needs}
-use Rattle.build_thomas.proofs.back_sweep.Statement.{statement}
-use Rattle.build_thomas.proofs.back_sweep.Tie as tie
+use Rattle.build_sweeps.proofs.back_sweep.Statement.{statement}
+use Rattle.build_sweeps.proofs.back_sweep.Tie as tie
 
 -- solved₀ is the list as it was, and b the node from which on it is swept
 abbrev Swept : ℕ → ℕ → List Float → ℕ → List Float → Type 0

@@ -1,4 +1,4 @@
--- `build_thomas::back_step` meets its contract: node i's part comes back with its numbers, and solved C, kept by columns, is the definition's.
+-- `build_sweeps::back_step` meets its contract: node i's part comes back with its numbers, and solved C, kept by columns, is the definition's.
 -- Assumes nothing.
 use mathlib.Core.Path.{sym, ap, ap₂, _∙_}
 use mathlib.Core.List.{List}
@@ -10,12 +10,12 @@ use Rattle.rules.specs.Solve.{times, minus, solvedC}
 use Rattle.build_products.specs.Columns.{transposed}
 use Rattle.build_products.proofs.Transposed.{transposed-twice}
 use Rattle.law_lists.proofs.Places.{next-part}
-use Rattle.build_thomas.proofs.Back.{length-solvedC}
+use Rattle.build_sweeps.proofs.Back.{length-solvedC}
 use Rattle.law_lists.proofs.Lent.{part-size}
 use Rattle.build_sides.specs.Node.{put}
 use borrow.Author.Needs.{needs}
-use Rattle.build_thomas.proofs.back_step.Statement.{statement}
-use Rattle.build_thomas.proofs.back_step.Tie as tie
+use Rattle.build_sweeps.proofs.back_step.Statement.{statement}
+use Rattle.build_sweeps.proofs.back_step.Tie as tie
 
 returns : tie.Need-returns
 returns c =

@@ -12,7 +12,7 @@ use Rattle.build_products.specs.Columns.{transposed}
 use Rattle.build_nodes.specs.NodeLists.{Room, nodeEntries, nodeRows, nodeSolved}
 use Rattle.law_lists.proofs.PartedList.{Parted, kept, part-at}
 use Rattle.build_nodes.proofs.Nodes.{length-entries, length-node-rows, length-solved}
-use Rattle.build_thomas.specs.Axis.{NodeFactors, NodeSolved}
+use Rattle.build_sweeps.specs.Axis.{NodeFactors, NodeSolved}
 use Rattle.build_sides.specs.Node.{NodeAt}
 
 -- one of n nodes

@@ -1,4 +1,4 @@
--- `build_thomas::forward_sweep` meets its contract. The loop's invariant: the list has the solved right sides of the first i
+-- `build_sweeps::forward_sweep` meets its contract. The loop's invariant: the list has the solved right sides of the first i
 -- nodes, and its own cells behind them. Assumes nothing.
 use mathlib.Core.Path.{_≡_, sym, ap, _∙_}
 use mathlib.Core.List.{List}
@@ -16,13 +16,13 @@ use Rattle.law_lists.proofs.Places.{next-part}
 use Rattle.law_lists.proofs.PartedList.{Parted, none, kept, step, part-at}
 use Rattle.build_plan.specs.declared.Plan.{Plan}
 use Rattle.build_plan.specs.Given.{firstOf, lastOf}
-use Rattle.build_thomas.specs.Axis.{waypointsOf}
-use Rattle.build_thomas.proofs.AxisIs.{points-dy, point-inside}
-use Rattle.build_thomas.proofs.AllNodes.{node-at}
+use Rattle.build_sweeps.specs.Axis.{waypointsOf}
+use Rattle.build_sweeps.proofs.Points.{points-dy, point-inside}
+use Rattle.build_sweeps.proofs.AllNodes.{node-at}
 use Rattle.build_sides.proofs.Sides.{solved-is}
 use borrow.Author.Needs.{needs}
-use Rattle.build_thomas.proofs.forward_sweep.Statement.{statement}
-use Rattle.build_thomas.proofs.forward_sweep.Tie as tie
+use Rattle.build_sweeps.proofs.forward_sweep.Statement.{statement}
+use Rattle.build_sweeps.proofs.forward_sweep.Tie as tie
 
 abbrev sides : Plan → List Float → ℕ → List Float → ℕ → List Float
 sides p waypoints axis boundary = solvedSide (p .m) (p .n) (waypointsOf p waypoints axis) (firstOf (p .m) boundary) (lastOf (p .m) boundary)

@@ -1,0 +1,3 @@
+pub mod AllNodes
+pub mod Back
+pub mod Points
