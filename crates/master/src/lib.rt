@@ -24,7 +24,8 @@ pub fn is_yes(answer: MasterAnswer) -> bool
     }
 }
 
-fn is_refused(answer: MasterAnswer) -> bool
+// M8: whether an answer is a refusal.
+pub fn is_refused(answer: MasterAnswer) -> bool
     ensures { λ r. ⌜ r ≡ masterSays answer .refused ⌝ }
 {
     match answer {

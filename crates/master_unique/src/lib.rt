@@ -6,6 +6,7 @@ ghost use Rattle.rules.specs.declared.MasterAnswer.the-variants.{Yes};
 ghost use Rattle.rules.specs.Master.{setOf, masterSays};
 ghost use Rattle.master_unique.specs.Both.{bothSay, checkBoth};
 use master::check_master;
+use master::is_refused;
 use rules::MasterAnswer;
 
 // The answers to two sets as one: the first refusal, else a no, else yes.
@@ -47,6 +48,9 @@ pub fn both_yes(
         × (now (end .entry) ≡ now («other_end» .entry)))) ⌝ }
 {
     let first = check_master(order, waypoints, start, end, table);
+    if is_refused(first) {
+        return first; // whatever the second set is
+    }
     let second = check_master(order, other_waypoints, other_start, other_end, other_table);
     both(first, second)
 }
