@@ -2,60 +2,49 @@
 //!
 //! A build's expected coefficients and inv_ds come from the Rust text. At order 3, and with two points at
 //! any order, it computes them by itself; at orders 5 and 7 with three or more points it factors and
-//! solves over the stand-in for nalgebra, which follows document 01. A refusal's expected number comes from
-//! document 01's questions as plain tests (`Build::number` of input.rs); where the Rust refuses too, its
-//! own kind of refusal has to be the same. NaNs are alike, and the two zeros are alike, though those of another
-//! sign are counted; all else is compared bit for bit.
+//! solves over the stand-in for nalgebra, which follows document 01. The rest of the record that comes back is what
+//! was given. A refusal's expected number comes from document 01's questions as plain tests (`Build::number` of
+//! input.rs), and its record is all zero; where the Rust refuses too, its own kind of refusal has to be the same.
+//! NaNs are alike, and the two zeros are alike in coefficients, though those of another sign are counted; all else is
+//! compared bit for bit.
 
 use crate::diag::PathError;
 use crate::input::{Build, State, HUGE, NOT_FINITE};
-use crate::library::raw::spline_build;
 use crate::random::Random;
 use crate::rows::{alike, best, counted, guarded, kept, lent, print_time, same_bits, Count, Refusals};
 use crate::spline::{coefficients, inv_ds, SplinePath};
 use crate::trials;
 use std::hint::black_box;
 use std::time::Instant;
+use tezvorup::raw::{spline_answer, spline_build, spline_config, spline_path, spline_state};
 
-/// A state's kind, rows and columns as the library takes them. Rows that no list has stand for a kind that
-/// does not exist, which no shape fits.
-fn shape(state: &State, axes: usize, m: usize) -> (u8, usize, usize) {
+/// A state as the library takes it. Rows that no list has stand for a kind that does not exist, which no shape fits.
+fn shape(state: &State, axes: usize, m: usize) -> spline_state {
     match state.given {
-        None => (0, axes, m),
-        Some((usize::MAX, _, marked)) => (if marked { 255 } else { 3 }, axes, m),
-        Some((rows, columns, marked)) => (1 + marked as u8, rows, columns),
+        None => spline_state { kind: 0, rows: axes, columns: m },
+        Some((usize::MAX, _, marked)) => spline_state { kind: if marked { 255 } else { 3 }, rows: axes, columns: m },
+        Some((rows, columns, marked)) => spline_state { kind: 1 + marked as u8, rows, columns },
     }
 }
 
-fn ours(b: &Build, cells: &mut [f64], inv_ds: &mut f64) -> u32 {
+fn ours(b: &Build, mode: u8, cells: &mut [f64]) -> spline_answer {
     let m = b.order / 2;
-    let (start_kind, start_rows, start_columns) = shape(&b.start, b.axes, m);
-    let (end_kind, end_rows, end_columns) = shape(&b.end, b.axes, m);
+    let (start, end) = (shape(&b.start, b.axes, m), shape(&b.end, b.axes, m));
     // SAFETY: each pointer comes with the length of its list, the lists that are written are borrowed as
     // mutable and so lie apart from the others, and the function takes any numbers.
     unsafe {
         spline_build(
-            b.order,
+            spline_config { order: b.order, s_min: b.s_min, s_max: b.s_max, mode, start, end },
             b.points,
             b.axes,
             b.waypoints.as_ptr(),
             b.waypoints.len(),
-            start_kind,
-            start_rows,
-            start_columns,
             b.start.numbers.as_ptr(),
             b.start.numbers.len(),
-            end_kind,
-            end_rows,
-            end_columns,
             b.end.numbers.as_ptr(),
             b.end.numbers.len(),
-            b.s_min,
-            b.s_max,
-            b.clamp as u8,
             cells.as_mut_ptr(),
             cells.len(),
-            inv_ds,
         )
     }
 }
@@ -175,42 +164,53 @@ fn doubtful(random: &mut Random) -> Build {
     b
 }
 
-/// No answer of the library's.
-const UNSET: f64 = 1.0 / 3.0;
+/// How many numbers a path's record has.
+const FIELDS: usize = 7;
 
-/// A call of ours: its number, the buffer with its guard cells after it and before it, inv_ds, and whether the lists that
-/// were lent to be read are as they were.
-fn run(b: &Build) -> (u32, Vec<f64>, Vec<f64>, f64, bool) {
+/// The same record, field by field and bit by bit. (What is expected has no NaN.)
+fn same_record(x: &spline_path, y: &spline_path) -> bool {
+    let wholes = |path: &spline_path| (path.order, path.segments, path.axes, path.mode);
+    let floats = |path: &spline_path| [path.s_min, path.s_max, path.inv_ds].map(f64::to_bits);
+    wholes(x) == wholes(y) && floats(x) == floats(y)
+}
+
+/// The record of a build that is served: what was given, the mode as one of the two that there are, and the Rust's inv_ds.
+fn record(b: &Build, inv_ds: f64) -> spline_path {
+    spline_path { order: b.order, segments: b.points - 1, axes: b.axes, s_min: b.s_min, s_max: b.s_max, inv_ds, mode: b.clamp.into() }
+}
+
+/// A call of ours: its answer, the buffer with its guard cells after it and before it, and whether the lists that were lent
+/// to be read are as they were.
+fn run(b: &Build, mode: u8) -> (spline_answer, Vec<f64>, Vec<f64>, bool) {
     let given = lists(b).map(|list| list.to_vec());
     let before = guarded(0, b.cells);
     let mut after = before.clone();
-    let mut quotient = UNSET;
-    let number = ours(b, lent(&mut after), &mut quotient);
+    let answer = ours(b, mode, lent(&mut after));
     let all_kept = given.iter().zip(lists(b)).all(|(before, after)| kept(before, after));
-    (number, after, before, quotient, all_kept)
+    (answer, after, before, all_kept)
 }
 
 fn lists(b: &Build) -> [&[f64]; 3] {
     [&b.waypoints, &b.start.numbers, &b.end.numbers]
 }
 
-fn count_build(count: &mut Count, b: &Build) -> bool {
-    let (number, after, mut expected, quotient, all_kept) = run(b);
+fn count_build(count: &mut Count, b: &Build, mode: u8) -> bool {
+    let (answer, after, mut expected, all_kept) = run(b, mode);
     let path = b.path().expect("the Rust builds it");
     if coefficients(&path).len() != b.cells {
         return false;
     }
     lent(&mut expected).copy_from_slice(coefficients(&path));
     let pairs = || after.iter().zip(&expected);
-    count.numbers += b.cells as u64;
+    count.numbers += (b.cells + FIELDS) as u64;
     count.zeros += pairs().filter(|(&x, &y)| x == y && !same_bits(x, y)).count() as u64;
-    number == 0 && all_kept && same_bits(quotient, inv_ds(&path)) && pairs().all(|(&x, &y)| alike(x, y))
+    answer.number == 0 && all_kept && same_record(&answer.path, &record(b, inv_ds(&path))) && pairs().all(|(&x, &y)| alike(x, y))
 }
 
-fn count_refusal(count: &mut Count, b: &Build, expected: u32) -> bool {
-    let (number, after, before, quotient, all_kept) = run(b);
-    count.numbers += (after.len() + 1 + lists(b).iter().map(|list| list.len()).sum::<usize>()) as u64;
-    number == expected && all_kept && same_bits(quotient, UNSET) && kept(&before, &after)
+fn count_refusal(count: &mut Count, b: &Build, mode: u8, expected: u32) -> bool {
+    let (answer, after, before, all_kept) = run(b, mode);
+    count.numbers += (after.len() + FIELDS + lists(b).iter().map(|list| list.len()).sum::<usize>()) as u64;
+    answer.number == expected && all_kept && same_record(&answer.path, &spline_path::default()) && kept(&before, &after)
 }
 
 fn describe(b: &Build) -> String {
@@ -238,7 +238,7 @@ const SOURCES: [(&str, &str); 3] = [
 
 /// Every order with every count of points and axes; then so many calls at random, half of them to be refused.
 pub fn compare(count: u64) {
-    let mut random = Random(0x6a09_e667_f3bc_c909);
+    let (mut random, mut modes) = (Random(0x6a09_e667_f3bc_c909), Random(0xcbbb_9d5d_c105_9ed8));
     let mut builds = SOURCES.map(|_| Count::default());
     let (mut refusals, mut by_rust) = (Refusals::default(), Count::default());
     let mut shown = 0;
@@ -255,12 +255,14 @@ pub fn compare(count: u64) {
             _ => refusals.of(expected),
         };
         entry.calls += 1;
-        let like = if expected == 0 { count_build(entry, &b) } else { count_refusal(entry, &b, expected) };
+        // every number but 1 is Error
+        let mode = if b.clamp { 1 } else { modes.pick(&[0, 0, 0, 2, 255]) };
+        let like = if expected == 0 { count_build(entry, &b, mode) } else { count_refusal(entry, &b, mode, expected) };
         if !like {
             entry.unlike += 1;
             shown += 1;
             if shown <= 5 {
-                eprintln!("unlike: expected {expected}, {} from {}", run(&b).0, describe(&b));
+                eprintln!("unlike: expected {expected}, {:?} from {}, mode {mode}", run(&b, mode).0, describe(&b));
             }
         }
     };
@@ -294,8 +296,7 @@ pub fn time() {
                 b.end = b.start.clone();
                 assert_eq!(b.number(), 0);
                 let mut cells = vec![0.0; b.cells];
-                let mut quotient = 0.0;
-                let mut here = |_| assert_eq!(ours(black_box(&b), &mut cells, &mut quotient), 0);
+                let mut here = |_| assert_eq!(ours(black_box(&b), b.clamp.into(), &mut cells).number, 0);
                 let (waypoints, config) = b.in_rust();
                 let there = |_| drop(black_box(SplinePath::from_waypoints(black_box(&waypoints), &config)));
                 // as many calls a round as take the Rust some two milliseconds
@@ -322,7 +323,7 @@ fn trial(name: &str, b: &Build) {
     trials::float("s_max", b.s_max);
     trials::whole("mode", b.clamp.into());
     for (end, state) in [("start", &b.start), ("end", &b.end)] {
-        let (kind, rows, columns) = shape(state, b.axes, b.order / 2);
+        let spline_state { kind, rows, columns } = shape(state, b.axes, b.order / 2);
         trials::whole(&format!("{end} kind"), kind.into());
         trials::whole(&format!("{end} rows"), rows);
         trials::whole(&format!("{end} columns"), columns);

@@ -3,11 +3,11 @@
 //! Expected bits come from `f64::mul_add` with the processor's own instruction: the program refuses to run without
 //! it. A NaN equals every NaN; all else is compared bit for bit.
 
-use crate::library::raw::spline_mul_add;
 use crate::random::Random;
 use crate::rows::{least, print_time, same_bits, Count};
 use crate::trials;
 use std::hint::black_box;
+use tezvorup::raw::spline_mul_add;
 
 type Triple = (f64, f64, f64);
 

@@ -8,7 +8,7 @@
 #include <stdlib.h>
 #include <string.h>
 
-#include "../include/spline.h"
+#include "tezvorup.h"
 
 /* ---- random numbers: xorshift64*, as in random.rs */
 
@@ -104,20 +104,29 @@ static void range(double *s_min, double *s_max) {
     *s_max = one_in(8) ? number(1) : 1.0 + (double)below(9);
 }
 
+/* A kind of state, or a mode: one of the first three, and any byte at times. */
+static uint8_t some_kind(void) {
+    return one_in(16) ? byte() : (uint8_t)below(3);
+}
+
+static spline_state some_state(size_t axes, size_t m) {
+    spline_state shape = {.kind = some_kind(), .rows = told(axes), .columns = told(m)};
+    return shape;
+}
+
 /* ---- the calls */
 
 static void build(void) {
     size_t order = some_order(), points = some_points(), axes = 1 + below(8), m = order / 2;
     int any = one_in(4);
-    uint8_t start_kind = one_in(16) ? byte() : (uint8_t)below(3), end_kind = one_in(16) ? byte() : (uint8_t)below(3);
     size_t waypoint_count = near(axes * points), start_count = near(axes * m), end_count = near(axes * m);
     size_t coefficient_count = near(SPLINE_COEFFICIENTS(order, points, axes));
     double *waypoints = floats(waypoint_count, any), *start = floats(start_count, any), *end = floats(end_count, any);
-    double *coefficients = floats(coefficient_count, 1), inv_ds = number(1), s_min, s_max;
-    range(&s_min, &s_max);
-    spline_build(told(order), told(points), told(axes), waypoints, waypoint_count,
-                 start_kind, told(axes), told(m), start, start_count, end_kind, told(axes), told(m), end, end_count,
-                 s_min, s_max, byte() % 3, coefficients, coefficient_count, &inv_ds);
+    double *coefficients = floats(coefficient_count, 1);
+    spline_config config = {.order = told(order), .mode = some_kind(), .start = some_state(axes, m), .end = some_state(axes, m)};
+    range(&config.s_min, &config.s_max);
+    spline_build(config, told(points), told(axes), waypoints, waypoint_count, start, start_count, end, end_count,
+                 coefficients, coefficient_count);
     free(waypoints);
     free(start);
     free(end);
@@ -129,15 +138,17 @@ static void query(void) {
     size_t order = some_order(), segments = some_points() - 1, axes = 1 + below(8);
     uint8_t level = one_in(16) ? byte() : levels[below(3)];
     size_t coefficient_count = near(axes * segments * (order + 1)), count[4];
-    double *coefficients = floats(coefficient_count, one_in(4)), *out[4], s_min, s_max;
+    double *coefficients = floats(coefficient_count, one_in(4)), *out[4];
     for (int k = 0; k < 4; k++) {
         count[k] = k <= level ? near(axes) : below(12);
         out[k] = floats(count[k], 1);
     }
-    range(&s_min, &s_max);
-    double inv_ds = one_in(16) ? number(1) : (double)segments / (s_max - s_min);
-    double s = one_in(4) ? number(1) : s_min + (s_max - s_min) * ((double)below(1025) / 1024.0);
-    spline_query(told(order), told(segments), told(axes), s_min, s_max, inv_ds, byte() % 3, coefficients, coefficient_count, s, level,
+    spline_path path = {.order = told(order), .segments = told(segments), .axes = told(axes), .mode = some_kind()};
+    range(&path.s_min, &path.s_max);
+    double length = path.s_max - path.s_min;
+    path.inv_ds = one_in(16) ? number(1) : (double)segments / length;
+    double s = one_in(4) ? number(1) : path.s_min + length * ((double)below(1025) / 1024.0);
+    spline_query(path, coefficients, coefficient_count, s, level,
                  out[0], count[0], out[1], count[1], out[2], count[2], out[3], count[3]);
     free(coefficients);
     for (int k = 0; k < 4; k++)
@@ -160,9 +171,9 @@ static void check(void) {
         for (size_t i = 0; i < table_count; i++)
             table[i] = i % cells == 0 ? (int64_t)(i / cells) : i % cells == 1;
     }
-    uint32_t answer = spline_check_master(line ? order : told(order), waypoints, waypoint_count, start, start_count,
-                                          end, end_count, table, table_count);
-    if (line && answer != SPLINE_YES)
+    spline_check answer = spline_check_master(line ? order : told(order), waypoints, waypoint_count, start, start_count,
+                                              end, end_count, table, table_count);
+    if (line && (answer.number != SPLINE_OK || !answer.good))
         abort();
     free(waypoints);
     free(start);

@@ -1,5 +1,5 @@
 //! The static library against the Rust text of copp, the processor's fused multiply-add and exact whole numbers.
-//! `compare/run` builds and runs it.
+//! `compare/run` builds and runs it, with bindings/rust as the crate `tezvorup`.
 //!
 //!   compare PERCENT   every comparison, a row each; 100 for the numbers of calls that README tells of
 //!   time              every timing, a row each
@@ -15,8 +15,6 @@ mod builds;
 mod exact;
 mod fused;
 mod input;
-// bindings/spline.rs, whose name the Rust text has here.
-mod library;
 mod masters;
 mod queries;
 mod query;

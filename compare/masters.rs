@@ -6,16 +6,33 @@
 
 use crate::asked::first_no;
 use crate::exact;
-use crate::library::check_master;
 use crate::random::Random;
 use crate::rows::{best, counted, print_time, Count, Refusals, GUARD};
 use crate::set::{binomial, Set, LIMIT};
 use crate::trials;
 use std::hint::black_box;
+use tezvorup::raw::{spline_check, spline_check_master};
 
-/// The answer as a number, as C gets it.
-fn ours(order: usize, [waypoints, start, end, table]: [&[i64]; 4]) -> u32 {
-    check_master(order, waypoints, start, end, table).map_or_else(|refusal| refusal.number(), u32::from)
+fn ours(order: usize, [waypoints, start, end, table]: [&[i64]; 4]) -> spline_check {
+    // SAFETY: each pointer comes with the length of its list, and the function takes any numbers and writes nothing.
+    unsafe {
+        spline_check_master(
+            order,
+            waypoints.as_ptr(),
+            waypoints.len(),
+            start.as_ptr(),
+            start.len(),
+            end.as_ptr(),
+            end.len(),
+            table.as_ptr(),
+            table.len(),
+        )
+    }
+}
+
+/// The record for an answer as `Set::answer` has it. (No refusal's number is 1.)
+fn record(answer: u32) -> spline_check {
+    spline_check { number: if answer == 1 { 0 } else { answer }, good: u8::from(answer == 1) }
 }
 
 const ORDERS: [usize; 3] = [3, 5, 7];
@@ -220,7 +237,7 @@ fn guarded(list: &[i64]) -> Vec<i64> {
 }
 
 /// The answer, if nothing was written to the lists or beside them.
-fn checked(set: &Set) -> Option<u32> {
+fn checked(set: &Set) -> Option<spline_check> {
     let before = set.lists().map(|list| guarded(list));
     let lent = before.clone();
     let answer = ours(set.order, lent.each_ref().map(|list| &list[GUARD..list.len() - GUARD]));
@@ -259,9 +276,9 @@ pub fn compare(count: u64) {
             number => refusals.of(number),
         };
         entry.calls += 1;
-        // the answer; and of a refusal every cell of the four lists and of those beside them
-        entry.numbers += if expected < 2 { 1 } else { (size(&set) + 8 * GUARD) as u64 };
-        if answer != Some(expected) {
+        // whether it is good; and of a refusal every cell of the four lists and of those beside them
+        entry.numbers += if expected < 2 { 1 } else { (1 + size(&set) + 8 * GUARD) as u64 };
+        if answer != Some(record(expected)) {
             entry.unlike += 1;
             if entry.unlike <= 5 {
                 let lengths = set.lists().map(|list| list.len());
@@ -333,7 +350,7 @@ pub fn time() {
         for segments in [1, 16, 64, 256] {
             let set = good(&mut random, order, segments);
             let lists = set.lists().map(|list| &list[..]);
-            let here = |_| assert_eq!(ours(order, black_box(lists)), 1);
+            let here = |_| assert_eq!(ours(order, black_box(lists)), record(1));
             let there = |_| assert_eq!(in_rust(black_box(order), black_box(lists)), 1);
             let (here, there) = best(1 + 20_000 / segments, here, there);
             print_time(&format!("check, order {order}, {}", counted(segments, "segment", "segments")), here, there);

@@ -7,29 +7,29 @@
 //! else is compared bit for bit.
 
 use crate::input::{range, Build, HUGE, NOT_FINITE};
-use crate::library::raw::spline_query;
 use crate::query::Query;
 use crate::random::Random;
 use crate::rows::{alike, best, counted, guarded, kept, lent, print_time, same_bits, Count, Refusals, GUARD};
 use crate::spline::{coefficients, eval_poly, path_of, segment_tau, SplinePath};
 use crate::trials;
 use std::hint::black_box;
+use tezvorup::raw::{spline_path, spline_query};
 
 /// The four buffers: positions, first, second and third derivatives.
 type Buffers<T> = [T; 4];
 
-fn ours(query: &Query, mode: u8, table: &[f64], [q, dq, ddq, dddq]: Buffers<&mut [f64]>) -> u32 {
+/// The path's record as the library takes it.
+fn record_of(query: &Query, mode: u8) -> spline_path {
+    let &Query { order, segments, axes, s_min, s_max, inv_ds, .. } = query;
+    spline_path { order, segments, axes, s_min, s_max, inv_ds, mode }
+}
+
+fn ours(record: spline_path, query: &Query, table: &[f64], [q, dq, ddq, dddq]: Buffers<&mut [f64]>) -> u32 {
     // SAFETY: each pointer comes with the length of its list, the lists that are written are borrowed as
     // mutable and so lie apart from the others, and the function takes any numbers.
     unsafe {
         spline_query(
-            query.order,
-            query.segments,
-            query.axes,
-            query.s_min,
-            query.s_max,
-            query.inv_ds,
-            mode,
+            record,
             table.as_ptr(),
             table.len(),
             query.s,
@@ -340,7 +340,7 @@ fn run(q: &Query, mode: u8, table: &[f64]) -> (u32, Buffers<Vec<f64>>, Buffers<V
     let given = table.to_vec();
     let before = [0, 1, 2, 3].map(|k| guarded(k, q.lengths[k]));
     let mut after = before.clone();
-    let number = ours(q, mode, table, after.each_mut().map(|list| lent(list)));
+    let number = ours(record_of(q, mode), q, table, after.each_mut().map(|list| lent(list)));
     (number, before, after, kept(&given, table))
 }
 
@@ -410,7 +410,7 @@ pub fn compare(count: u64) {
 
 // ---- time
 
-/// 64 segments, s at random in the range.
+/// 64 segments, s at random in the range. Ours is given a record that was there before, as a build hands it over.
 pub fn time() {
     let mut random = Random(0x510e_527f_ade6_82d1);
     for order in ORDERS {
@@ -419,13 +419,13 @@ pub fn time() {
                 let mut q = matching(&mut random, order, 64, axes);
                 (q.s_min, q.s_max, q.inv_ds, q.clamp, q.level, q.lengths) = (0.0, 1.0, 64.0, false, level, [axes; 4]);
                 let table: Vec<f64> = (0..q.cells).map(|_| coefficient(0, random.bits() >> 2)).collect();
-                let path = in_rust(&q, &table);
+                let (record, path) = (record_of(&q, 0), in_rust(&q, &table));
                 let places: Vec<f64> = (0..1 << 12).map(|_| random.unit()).collect();
                 let mut out: Buffers<Vec<f64>> = [0, 1, 2, 3].map(|_| vec![0.0; axes]);
                 let mut other = out.clone();
                 let here = |i: usize| {
                     q.s = black_box(places[i]);
-                    assert_eq!(ours(black_box(&q), 0, &table, out.each_mut().map(|list| &mut list[..])), 0);
+                    assert_eq!(ours(*black_box(&record), black_box(&q), &table, out.each_mut().map(|list| &mut list[..])), 0);
                 };
                 let there =
                     |i: usize| theirs(black_box(&path), black_box(places[i]), black_box(level), other.each_mut().map(|list| &mut list[..]));

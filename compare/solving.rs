@@ -8,14 +8,13 @@
 //! In document 01's own way, `document`, nothing may differ.
 
 use input::{diag, path, Build};
-use library::{from_waypoints_view, SplineConfig};
 use random::Random;
 use spline::coefficients;
+use tezvorup::{from_waypoints_view, SplineConfig};
 
 mod asked;
 #[allow(dead_code)]
 mod input;
-mod library;
 mod random;
 #[allow(dead_code)]
 mod spline;

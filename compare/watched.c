@@ -1,10 +1,11 @@
 /*
  * Stands between a C program and the library, by the linker's --wrap, and watches every call; for valgrind. Each list
  * that is lent goes to the library as a copy between guard cells that nobody may read or write, and a buffer that is to
- * be written counts there as never written. So valgrind reports every step beyond a list and every decision on a cell
- * that the caller did not give. After each call it is seen that the number is one that the function has, that the guard
- * cells and all that was lent to be read are as they were, that a refused call changed no cell, and that a served call
- * wrote every cell that it is to write.
+ * be written counts there as never written, as does the padding of a record that is given. So valgrind reports every
+ * step beyond a list and every decision on what the caller did not give. After each call it is seen that the number is
+ * one that the function has, that the guard cells and all that was lent to be read are as they were, that a refused call
+ * changed no cell, and that a served call wrote every cell that it is to write. The record that comes back has every
+ * field written: a build's says what was built or is all zero, and a check is good only where it is not refused.
  *
  * At the end a row for each function that was called goes to the file that the environment names as ROWS: what was
  * called, against what, calls, cells looked at, and how much was wrong, what valgrind reported included. PROGRAM is the
@@ -15,7 +16,7 @@
 #include <string.h>
 #include <valgrind/memcheck.h>
 
-#include "../include/spline.h"
+#include "tezvorup.h"
 
 /* ---- what was seen */
 
@@ -34,17 +35,17 @@ static void see(Seen *seen, int right, const char *what) {
     }
 }
 
-/* Whether a call was served: the first `yes` of the function's numbers say so, and the others are refusals. */
-static int served(Seen *seen, uint32_t answer, const uint32_t *numbers, size_t count, size_t yes) {
+/* Whether a call was served, which SPLINE_OK says, the first of the function's numbers. */
+static int served(Seen *seen, uint32_t answer, const uint32_t *numbers, size_t count) {
     size_t at = 0;
     while (at < count && numbers[at] != answer)
         at++;
     see(seen, at < count, "a number that the function does not have");
-    if (at < yes)
+    if (at == 0)
         seen->served++;
     else
         seen->refused++;
-    return at < yes;
+    return at == 0;
 }
 
 __attribute__((destructor)) static void print(void) {
@@ -118,6 +119,62 @@ static void take_back(Seen *seen, List *l, int written) {
     free(l->before);
 }
 
+/* ---- records */
+
+/* What lies between two fields counts as never written. */
+static void forget(void *from, void *until) {
+    VALGRIND_MAKE_MEM_UNDEFINED(from, (size_t)((char *)until - (char *)from));
+}
+
+static void forget_state(spline_state *state) {
+    forget(&state->kind + 1, &state->rows);
+}
+
+static void forget_config(spline_config *config) {
+    forget(&config->mode + 1, &config->start);
+    forget_state(&config->start);
+    forget_state(&config->end);
+}
+
+static void forget_path(spline_path *path) {
+    forget(&path->mode + 1, path + 1);
+}
+
+/* A field of a record that came back. It is read as it is from then on. */
+static void look(Seen *seen, const void *field, size_t size) {
+    see(seen, VALGRIND_CHECK_MEM_IS_DEFINED(field, size) == 0, "a field was not written");
+    VALGRIND_MAKE_MEM_DEFINED(field, size);
+}
+
+static void look_at_path(Seen *seen, const spline_path *path) {
+    look(seen, &path->order, sizeof path->order);
+    look(seen, &path->segments, sizeof path->segments);
+    look(seen, &path->axes, sizeof path->axes);
+    look(seen, &path->s_min, sizeof path->s_min);
+    look(seen, &path->s_max, sizeof path->s_max);
+    look(seen, &path->inv_ds, sizeof path->inv_ds);
+    look(seen, &path->mode, sizeof path->mode);
+    seen->cells += 7;
+}
+
+/* Alike to the last bit: the two zeros are not. */
+static int same(double x, double y) {
+    return memcmp(&x, &y, sizeof x) == 0;
+}
+
+static int same_path(const spline_path *x, const spline_path *y) {
+    return x->order == y->order && x->segments == y->segments && x->axes == y->axes && x->mode == y->mode
+           && same(x->s_min, y->s_min) && same(x->s_max, y->s_max) && same(x->inv_ds, y->inv_ds);
+}
+
+/* What a build hands over that is served. */
+static spline_path built(const spline_config *config, size_t points, size_t axes) {
+    spline_path path = {.order = config->order, .segments = points - 1, .axes = axes, .s_min = config->s_min, .s_max = config->s_max};
+    path.inv_ds = (double)path.segments / (path.s_max - path.s_min);
+    path.mode = config->mode == SPLINE_MODE_CLAMP ? SPLINE_MODE_CLAMP : SPLINE_MODE_ERROR;
+    return path;
+}
+
 /* ---- the calls. __real_NAME is the library's function, and a call of NAME comes to __wrap_NAME. */
 
 double __real_spline_mul_add(double a, double b, double c);
@@ -130,52 +187,49 @@ double __wrap_spline_mul_add(double a, double b, double c) {
     return r;
 }
 
-uint32_t __real_spline_build(size_t order, size_t points, size_t axes, const double *waypoints, size_t waypoint_count,
-                             uint8_t start_kind, size_t start_rows, size_t start_cols, const double *start, size_t start_count,
-                             uint8_t end_kind, size_t end_rows, size_t end_cols, const double *end, size_t end_count,
-                             double s_min, double s_max, uint8_t mode,
-                             double *coefficients, size_t coefficient_count, double *inv_ds);
+spline_answer __real_spline_build(spline_config config, size_t points, size_t axes, const double *waypoints, size_t waypoint_count,
+                                  const double *start, size_t start_count, const double *end, size_t end_count,
+                                  double *coefficients, size_t coefficient_count);
 
-uint32_t __wrap_spline_build(size_t order, size_t points, size_t axes, const double *waypoints, size_t waypoint_count,
-                             uint8_t start_kind, size_t start_rows, size_t start_cols, const double *start, size_t start_count,
-                             uint8_t end_kind, size_t end_rows, size_t end_cols, const double *end, size_t end_count,
-                             double s_min, double s_max, uint8_t mode,
-                             double *coefficients, size_t coefficient_count, double *inv_ds) {
+spline_answer __wrap_spline_build(spline_config config, size_t points, size_t axes, const double *waypoints, size_t waypoint_count,
+                                  const double *start, size_t start_count, const double *end, size_t end_count,
+                                  double *coefficients, size_t coefficient_count) {
     static const uint32_t numbers[] = {0, 2, 3, 4, 300, 301, 302, 303, 304, 307};
+    static const spline_path none;
     unsigned long long errors = VALGRIND_COUNT_ERRORS;
     List w = lend(waypoints, waypoint_count, 0), s = lend(start, start_count, 0), e = lend(end, end_count, 0);
-    List c = lend(coefficients, coefficient_count, 1), i = lend(inv_ds, 1, 1);
-    uint32_t answer = __real_spline_build(order, points, axes, lent(&w), waypoint_count,
-                                          start_kind, start_rows, start_cols, lent(&s), start_count,
-                                          end_kind, end_rows, end_cols, lent(&e), end_count,
-                                          s_min, s_max, mode, lent(&c), coefficient_count, lent(&i));
-    int yes = served(&builds, answer, numbers, sizeof numbers / sizeof *numbers, 1);
+    List c = lend(coefficients, coefficient_count, 1);
+    forget_config(&config);
+    spline_answer answer = __real_spline_build(config, points, axes, lent(&w), waypoint_count, lent(&s), start_count,
+                                               lent(&e), end_count, lent(&c), coefficient_count);
+    look(&builds, &answer.number, sizeof answer.number);
+    look_at_path(&builds, &answer.path);
+    int yes = served(&builds, answer.number, numbers, sizeof numbers / sizeof *numbers);
+    spline_path expected = yes ? built(&config, points, axes) : none;
+    see(&builds, same_path(&answer.path, &expected), "a record that is not what was built, or not all zero");
     take_back(&builds, &w, 0);
     take_back(&builds, &s, 0);
     take_back(&builds, &e, 0);
     take_back(&builds, &c, yes);
-    take_back(&builds, &i, yes);
     builds.wrong += VALGRIND_COUNT_ERRORS - errors;
     return answer;
 }
 
-uint32_t __real_spline_query(size_t order, size_t segments, size_t axes, double s_min, double s_max, double inv_ds, uint8_t mode,
-                             const double *coefficients, size_t coefficient_count, double s, uint8_t level,
+uint32_t __real_spline_query(spline_path path, const double *coefficients, size_t coefficient_count, double s, uint8_t level,
                              double *q, size_t q_count, double *dq, size_t dq_count,
                              double *ddq, size_t ddq_count, double *dddq, size_t dddq_count);
 
-uint32_t __wrap_spline_query(size_t order, size_t segments, size_t axes, double s_min, double s_max, double inv_ds, uint8_t mode,
-                             const double *coefficients, size_t coefficient_count, double s, uint8_t level,
+uint32_t __wrap_spline_query(spline_path path, const double *coefficients, size_t coefficient_count, double s, uint8_t level,
                              double *q, size_t q_count, double *dq, size_t dq_count,
                              double *ddq, size_t ddq_count, double *dddq, size_t dddq_count) {
     static const uint32_t numbers[] = {0, 2, 300, 301, 302, 303, 304, 305, 308};
     unsigned long long errors = VALGRIND_COUNT_ERRORS;
     List c = lend(coefficients, coefficient_count, 0);
     List out[] = {lend(q, q_count, 1), lend(dq, dq_count, 1), lend(ddq, ddq_count, 1), lend(dddq, dddq_count, 1)};
-    uint32_t answer = __real_spline_query(order, segments, axes, s_min, s_max, inv_ds, mode,
-                                          lent(&c), coefficient_count, s, level, lent(&out[0]), q_count, lent(&out[1]), dq_count,
-                                          lent(&out[2]), ddq_count, lent(&out[3]), dddq_count);
-    int yes = served(&queries, answer, numbers, sizeof numbers / sizeof *numbers, 1);
+    forget_path(&path);
+    uint32_t answer = __real_spline_query(path, lent(&c), coefficient_count, s, level, lent(&out[0]), q_count,
+                                          lent(&out[1]), dq_count, lent(&out[2]), ddq_count, lent(&out[3]), dddq_count);
+    int yes = served(&queries, answer, numbers, sizeof numbers / sizeof *numbers);
     take_back(&queries, &c, 0);
     for (int k = 0; k < 4; k++)
         take_back(&queries, &out[k], yes && k <= level);
@@ -183,18 +237,24 @@ uint32_t __wrap_spline_query(size_t order, size_t segments, size_t axes, double 
     return answer;
 }
 
-uint32_t __real_spline_check_master(size_t order, const int64_t *waypoints, size_t waypoint_count, const int64_t *start, size_t start_count,
-                                    const int64_t *end, size_t end_count, const int64_t *table, size_t table_count);
+spline_check __real_spline_check_master(size_t order, const int64_t *waypoints, size_t waypoint_count,
+                                        const int64_t *start, size_t start_count, const int64_t *end, size_t end_count,
+                                        const int64_t *table, size_t table_count);
 
-uint32_t __wrap_spline_check_master(size_t order, const int64_t *waypoints, size_t waypoint_count, const int64_t *start, size_t start_count,
-                                    const int64_t *end, size_t end_count, const int64_t *table, size_t table_count) {
-    static const uint32_t numbers[] = {SPLINE_NO, SPLINE_YES, 2, 4, 302, 303, 304};
+spline_check __wrap_spline_check_master(size_t order, const int64_t *waypoints, size_t waypoint_count,
+                                        const int64_t *start, size_t start_count, const int64_t *end, size_t end_count,
+                                        const int64_t *table, size_t table_count) {
+    static const uint32_t numbers[] = {0, 2, 4, 302, 303, 304};
     unsigned long long errors = VALGRIND_COUNT_ERRORS;
     List w = lend(waypoints, waypoint_count, 0), s = lend(start, start_count, 0);
     List e = lend(end, end_count, 0), t = lend(table, table_count, 0);
-    uint32_t answer =
+    spline_check answer =
         __real_spline_check_master(order, lent(&w), waypoint_count, lent(&s), start_count, lent(&e), end_count, lent(&t), table_count);
-    served(&checks, answer, numbers, sizeof numbers / sizeof *numbers, 2);
+    look(&checks, &answer.number, sizeof answer.number);
+    look(&checks, &answer.good, sizeof answer.good);
+    checks.cells++;
+    int yes = served(&checks, answer.number, numbers, sizeof numbers / sizeof *numbers);
+    see(&checks, answer.good <= (yes ? 1 : 0), "good is neither 0 nor 1, or beside a refusal");
     take_back(&checks, &w, 0);
     take_back(&checks, &s, 0);
     take_back(&checks, &e, 0);

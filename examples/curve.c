@@ -4,42 +4,39 @@
 #include <stdio.h>
 #include <string.h>
 
-#include "../include/spline.h"
+#include <tezvorup.h>
 
 enum { ORDER = 5, POINTS = 3, AXES = 2, SEGMENTS = POINTS - 1, CELLS = ORDER + 1, STATE = (ORDER - 1) / 2 };
 
-static const double S_MIN = 0.0, S_MAX = 2.0;
-
-/* Builds into a table that may be in use: it changes only where the answer is SPLINE_OK. */
-static uint32_t build(const double *waypoints, double *table, double *inv_ds) {
-    return spline_build(ORDER, POINTS, AXES, waypoints, AXES * POINTS,
-                        SPLINE_STATE_NONE, 0, 0, NULL, 0, SPLINE_STATE_NONE, 0, 0, NULL, 0,
-                        S_MIN, S_MAX, SPLINE_MODE_ERROR, table, SPLINE_COEFFICIENTS(ORDER, POINTS, AXES), inv_ds);
+/* Builds into a table that may be in use: it changes only where the answer's number is SPLINE_OK. */
+static spline_answer build(const double *waypoints, double *table) {
+    /* the mode is SPLINE_MODE_ERROR, and both states are SPLINE_STATE_NONE, which is at rest */
+    spline_config config = {.order = ORDER, .s_min = 0.0, .s_max = 2.0};
+    return spline_build(config, POINTS, AXES, waypoints, AXES * POINTS, NULL, 0, NULL, 0,
+                        table, SPLINE_COEFFICIENTS(ORDER, POINTS, AXES));
 }
 
 /* Position and two derivatives at s. */
-static uint32_t query(const double *table, double inv_ds, double s, double *q, double *dq, double *ddq) {
-    return spline_query(ORDER, SEGMENTS, AXES, S_MIN, S_MAX, inv_ds, SPLINE_MODE_ERROR,
-                        table, SPLINE_COEFFICIENTS(ORDER, POINTS, AXES), s, 2,
-                        q, AXES, dq, AXES, ddq, AXES, NULL, 0);
+static uint32_t query(spline_path path, const double *table, double s, double *q, double *dq, double *ddq) {
+    return spline_query(path, table, spline_coefficients(path.order, path.segments + 1, path.axes), s, 2,
+                        q, path.axes, dq, path.axes, ddq, path.axes, NULL, 0);
 }
 
 /* Whether a table is the master through x's points that starts and ends at rest. */
 static const char *check(const int64_t *table) {
     const int64_t points[POINTS] = {0, 8, 16}, rest[STATE] = {0, 0};
-    uint32_t answer = spline_check_master(ORDER, points, POINTS, rest, STATE, rest, STATE, table, SEGMENTS * CELLS);
-    return answer == SPLINE_YES ? "yes" : answer == SPLINE_NO ? "no" : "refused";
+    spline_check c = spline_check_master(ORDER, points, POINTS, rest, STATE, rest, STATE, table, SEGMENTS * CELLS);
+    return c.good ? "yes" : c.number == SPLINE_OK ? "no" : spline_message(c.number);
 }
 
 int main(void) {
     /* x and y of one point after the other */
     const double waypoints[AXES * POINTS] = {0, 0, 8, 3, 16, 0};
     double table[SPLINE_COEFFICIENTS(ORDER, POINTS, AXES)];
-    double inv_ds;
 
-    uint32_t number = build(waypoints, table, &inv_ds);
-    printf("build: %u\n", (unsigned)number);
-    if (number != SPLINE_OK)
+    spline_answer built = build(waypoints, table);
+    printf("build: %u\n", (unsigned)built.number);
+    if (built.number != SPLINE_OK)
         return 1;
     for (int axis = 0; axis < AXES; axis++)
         for (int segment = 0; segment < SEGMENTS; segment++) {
@@ -51,7 +48,7 @@ int main(void) {
 
     for (int step = 0; step <= 8; step++) {
         double s = step / 4.0, q[AXES], dq[AXES], ddq[AXES];
-        if (query(table, inv_ds, s, q, dq, ddq) != SPLINE_OK)
+        if (query(built.path, table, s, q, dq, ddq) != SPLINE_OK)
             return 1;
         double curvature = (dq[0] * ddq[1] - dq[1] * ddq[0]) / pow(dq[0] * dq[0] + dq[1] * dq[1], 1.5);
         printf("s %.2f: x %.6f, y %.6f", s, q[0], q[1]);
@@ -65,12 +62,12 @@ int main(void) {
     double loaded[SPLINE_COEFFICIENTS(ORDER, POINTS, AXES)];
     memcpy(loaded, table, sizeof table);
     const double damaged[AXES * POINTS] = {0, 0, NAN, 3, 16, 0};
-    number = build(damaged, table, &inv_ds);
-    printf("a waypoint that is no number: refused with %u, the table is %s\n", (unsigned)number,
+    spline_answer refused = build(damaged, table);
+    printf("a waypoint that is no number: refused with %u, the table is %s\n", (unsigned)refused.number,
            memcmp(loaded, table, sizeof table) == 0 ? "as it was" : "changed");
 
     double q[AXES], dq[AXES], ddq[AXES];
-    printf("s 2.5: refused with %u\n", (unsigned)query(table, inv_ds, 2.5, q, dq, ddq));
+    printf("s 2.5: refused with %u\n", (unsigned)query(built.path, table, 2.5, q, dq, ddq));
 
     /* The x axis is whole numbers, so it can be kept as a master. */
     int64_t master[SEGMENTS * CELLS];

@@ -1,17 +1,12 @@
 //! An arch through three points, from Rust: built, printed, walked along, refused and checked. `examples/rust` builds and
-//! runs it; examples/curve.c is the same in C and prints the same.
-
-#[path = "../bindings/spline.rs"]
-mod spline;
-
-use spline::{check_master, from_waypoints_view, PathError, SplineConfig, SplinePath};
+//! runs it, and `cargo run --example curve` in bindings/rust; examples/curve.c is the same in C and prints the same.
+use tezvorup::{check_master, from_waypoints_view, PathError, SplineConfig, SplinePath};
 
 const CELLS: usize = 6;
 
 fn main() -> Result<(), PathError> {
     let config = SplineConfig { order: 5, s_max: 2.0, ..SplineConfig::default() };
-    // x and y of one point after the other
-    let path = SplinePath::from_waypoints(&config, 3, 2, &[0.0, 0.0, 8.0, 3.0, 16.0, 0.0])?;
+    let path = SplinePath::from_points(&config, &[[0.0, 0.0], [8.0, 3.0], [16.0, 0.0]])?;
     println!("build: 0");
     for (place, segment) in path.coefficients().chunks(CELLS).enumerate() {
         let list: Vec<String> = segment.iter().map(|x| format!("{x:.1}")).collect();
@@ -21,7 +16,7 @@ fn main() -> Result<(), PathError> {
     for step in 0..=8 {
         let s = f64::from(step) / 4.0;
         let (mut q, mut dq, mut ddq) = ([0.0; 2], [0.0; 2], [0.0; 2]);
-        path.eval_at(s, 2, &mut q, &mut dq, &mut ddq, &mut [])?;
+        path.eval_into(s, &mut [&mut q, &mut dq, &mut ddq])?;
         let curvature = (dq[0] * ddq[1] - dq[1] * ddq[0]) / (dq[0] * dq[0] + dq[1] * dq[1]).powf(1.5);
         print!("s {s:.2}: x {:.6}, y {:.6}", q[0], q[1]);
         // the path starts and ends at rest, where it has no direction

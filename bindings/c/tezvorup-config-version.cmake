@@ -1,0 +1,10 @@
+set(PACKAGE_VERSION "@VERSION@")
+# as long as the first number is 0, versions of one second number fit each other
+string(REGEX MATCH "^[0-9]+\\.[0-9]+" tezvorup_series "${PACKAGE_VERSION}")
+if(PACKAGE_FIND_VERSION VERSION_EQUAL PACKAGE_VERSION)
+    set(PACKAGE_VERSION_EXACT TRUE)
+endif()
+if(PACKAGE_FIND_VERSION VERSION_LESS_EQUAL PACKAGE_VERSION AND PACKAGE_FIND_VERSION VERSION_GREATER_EQUAL tezvorup_series)
+    set(PACKAGE_VERSION_COMPATIBLE TRUE)
+endif()
+unset(tezvorup_series)
