@@ -103,6 +103,19 @@ fn numbers_that_are_no_whole_points_are_refused() {
     assert_eq!(SplinePath::from_points(&config, &none).unwrap_err(), PathError::NotEnoughWaypoints { n: 0 });
 }
 
+/// Every waypoint but the last at its own s, to the last bit.
+#[test]
+fn left_waypoints_are_met() {
+    let points: Vec<[f64; 2]> = (0..40).map(f64::from).map(|k| [(1.37 * k).sin() * 40.0, (k * k).cos() / 3.0]).collect();
+    for order in [3, 5, 7] {
+        let config = SplineConfig { order, s_min: -2.0, s_max: 37.0, ..SplineConfig::default() };
+        let path = SplinePath::from_points(&config, &points).unwrap();
+        for (k, point) in points[..39].iter().enumerate() {
+            assert_eq!(path.position(k as f64 - 2.0).unwrap(), point);
+        }
+    }
+}
+
 /// As many buffers, so many derivatives: the same as the query with its level.
 #[test]
 fn buffers_tell_the_level() {
