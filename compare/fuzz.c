@@ -1,7 +1,7 @@
 /*
  * Calls every function of the library from C with generated input, for watched.c and valgrind to watch.
  *
- *   fuzz COUNT   COUNT calls of each function, and of spline_mul_add two for one
+ *   fuzz COUNT   COUNT calls of each function, of spline_mul_add two for one, and COUNT / 5 curves that must be served
  */
 #include <stdint.h>
 #include <stdio.h>
@@ -155,6 +155,78 @@ static void query(void) {
         free(out[k]);
 }
 
+/* What is so, or the program ends. */
+static void must(int right) {
+    if (!right)
+        abort();
+}
+
+static int close_to(double x, double y) {
+    return x - y < 1e-6 && y - x < 1e-6;
+}
+
+/* A state's number as a curve has it: per segment, and that is so many units of s long. */
+static double held(spline_state state, const double *numbers, size_t axis, size_t column, double unit) {
+    if (state.kind == SPLINE_STATE_NONE)
+        return 0.0;
+    double x = numbers[column * state.rows + axis];
+    for (size_t r = 0; state.kind == SPLINE_STATE_PER_UNIT_OF_S && r <= column; r++)
+        x *= unit;
+    return x;
+}
+
+/* A state of any kind, with its numbers. */
+static spline_state proper_state(size_t axes, size_t m, double **numbers, size_t *count) {
+    spline_state state = {.kind = (uint8_t)below(3)};
+    if (state.kind != SPLINE_STATE_NONE) {
+        state.rows = axes;
+        state.columns = m;
+    }
+    *count = state.rows * state.columns;
+    *numbers = floats(*count, 0);
+    return state;
+}
+
+/* A curve that must be served, with what was handed over found where it belongs. A segment is a power of 2 long, so nothing
+   is rounded at a left waypoint: position and derivatives are the coefficients, times 1, 1, 2 and 6. */
+static void curve(void) {
+    size_t order = some_order(), points = some_points(), axes = 1 + below(8), m = order / 2, segments = points - 1;
+    size_t coefficient_count = spline_coefficients(order, points, axes), k = below(segments), start_count, end_count;
+    double unit = 0.5 * (double)(1 << below(3)), *start, *end;
+    double *waypoints = floats(axes * points, 0), *coefficients = floats(coefficient_count, 1);
+    spline_config config = {.order = order, .s_min = number(0), .mode = (uint8_t)below(2)};
+    config.s_max = config.s_min + unit * (double)segments;
+    config.start = proper_state(axes, m, &start, &start_count);
+    config.end = proper_state(axes, m, &end, &end_count);
+    spline_answer built = spline_build(config, points, axes, waypoints, axes * points, start, start_count, end, end_count,
+                                       coefficients, coefficient_count);
+    must(built.number == SPLINE_OK);
+
+    double q[8], dq[8], ddq[8], dddq[8];
+    must(spline_query(built.path, coefficients, coefficient_count, config.s_min + unit * (double)k, 3,
+                      q, axes, dq, axes, ddq, axes, dddq, axes) == SPLINE_OK);
+    for (size_t axis = 0; axis < axes; axis++) {
+        const double *first = coefficients + axis * segments * (order + 1), *c = first + k * (order + 1);
+        must(q[axis] == waypoints[k * axes + axis] && q[axis] == c[0] && dq[axis] * unit == c[1]);
+        must(ddq[axis] * unit * unit == 2.0 * c[2] && dddq[axis] * unit * unit * unit == 6.0 * c[3]);
+        for (size_t r = 0; r < m; r++)
+            must(first[1 + r] == held(config.start, start, axis, r, unit));
+    }
+
+    /* the far end is rounded, and so is what lies beyond it in mode Clamp */
+    double s = config.s_max + (double)below(2);
+    uint32_t number = spline_query(built.path, coefficients, coefficient_count, s, 2, q, axes, dq, axes, ddq, axes, NULL, 0);
+    must(number == (s == config.s_max || config.mode == SPLINE_MODE_CLAMP ? SPLINE_OK : SPLINE_OUT_OF_RANGE_S));
+    for (size_t axis = 0; number == SPLINE_OK && axis < axes; axis++) {
+        must(close_to(q[axis], waypoints[segments * axes + axis]));
+        must(close_to(dq[axis] * unit, held(config.end, end, axis, 0, unit)));
+    }
+    free(waypoints);
+    free(coefficients);
+    free(start);
+    free(end);
+}
+
 /* Half of the sets are a straight line, which is good at every order; the others are of any numbers. */
 static void check(void) {
     size_t order = some_order(), points = some_points(), m = order / 2, cells = order + 1;
@@ -173,8 +245,7 @@ static void check(void) {
     }
     spline_check answer = spline_check_master(line ? order : told(order), waypoints, waypoint_count, start, start_count,
                                               end, end_count, table, table_count);
-    if (line && (answer.number != SPLINE_OK || !answer.good))
-        abort();
+    must(!line || (answer.number == SPLINE_OK && answer.good));
     free(waypoints);
     free(start);
     free(end);
@@ -183,8 +254,7 @@ static void check(void) {
 
 static void step(void) {
     double whole = (double)below(1 << 20);
-    if (spline_mul_add(whole, whole, -whole) != whole * whole - whole)
-        abort();
+    must(spline_mul_add(whole, whole, -whole) == whole * whole - whole);
     spline_mul_add(pattern(), pattern(), pattern());
 }
 
@@ -195,6 +265,8 @@ int main(int argc, char **argv) {
         query();
         check();
         step();
+        if (i % 5 == 0)
+            curve();
     }
     return 0;
 }
