@@ -116,6 +116,12 @@ static spline_state some_state(size_t axes, size_t m) {
 
 /* ---- the calls */
 
+/* What is so, or the program ends. */
+static void must(int right) {
+    if (!right)
+        abort();
+}
+
 static void build(void) {
     size_t order = some_order(), points = some_points(), axes = 1 + below(8), m = order / 2;
     int any = one_in(4);
@@ -125,8 +131,16 @@ static void build(void) {
     double *coefficients = floats(coefficient_count, 1);
     spline_config config = {.order = told(order), .mode = some_kind(), .start = some_state(axes, m), .end = some_state(axes, m)};
     range(&config.s_min, &config.s_max);
-    spline_build(config, told(points), told(axes), waypoints, waypoint_count, start, start_count, end, end_count,
-                 coefficients, coefficient_count);
+    points = told(points);
+    axes = told(axes);
+    uint32_t number = spline_build(config, points, axes, waypoints, waypoint_count, start, start_count, end, end_count,
+                                   coefficients, coefficient_count).number;
+    /* the header's count is 0 where the library refuses the counts, and else what it asks for */
+    size_t count = spline_coefficients(config.order, points, axes);
+    int refused = number == SPLINE_INVALID_ORDER || number == SPLINE_NOT_ENOUGH_WAYPOINTS || number == SPLINE_INVALID_DIMENSION
+                  || (number == SPLINE_INVALID_LENGTH && points > 257);
+    must((count == 0) == refused);
+    must(number != SPLINE_OK || count == coefficient_count);
     free(waypoints);
     free(start);
     free(end);
@@ -153,12 +167,6 @@ static void query(void) {
     free(coefficients);
     for (int k = 0; k < 4; k++)
         free(out[k]);
-}
-
-/* What is so, or the program ends. */
-static void must(int right) {
-    if (!right)
-        abort();
 }
 
 static int close_to(double x, double y) {

@@ -1,9 +1,8 @@
 -- A path's record comes back as it was handed over, and that of a refusal is all zero. Assumes nothing.
-use mathlib.Core.Path.{_≡_, refl, ap}
+use mathlib.Core.Path.{_≡_, refl}
 use borrow.Author.Tests.{ne-eqb}
 use Rattle.rules.specs.declared.OutOfRangeMode.{OutOfRangeMode}
 use Rattle.rules.specs.declared.OutOfRangeMode.the-variants.{Error, Clamp}
-use Rattle.rules.specs.declared.PathRecord.{PathRecord}
 use Rattle.rules.specs.Build.{refusedRecord, buildNumber, buildAnswer}
 use Rattle.tezvorup_records.specs.Meaning.{modeOf, modeNumber, RecordsComeBack, RefusalsAreBlank}
 

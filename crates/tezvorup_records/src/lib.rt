@@ -2,7 +2,7 @@
 // is to be believed of them, with the numbers that each export can answer, stands in specs/.
 ghost use mathlib.Core.Path.{_≡_};
 ghost use Rattle.rules.specs.Master.{masterSays};
-ghost use Rattle.tezvorup_records.specs.Meaning.{stateOf, modeOf, modeNumber, configOf, pathOf, recordOf, answerOf, checkOf};
+ghost use Rattle.tezvorup_records.specs.Meaning.{stateOf, modeOf, modeNumber, configOf, pathOf, answerOf, checkOf};
 use rules::BoundaryState;
 use rules::BuildAnswer;
 use rules::MasterAnswer;

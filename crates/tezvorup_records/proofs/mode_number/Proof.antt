@@ -1,5 +1,5 @@
 -- `tezvorup_records::mode_number` meets its contract: a number for each case. Assumes nothing.
-use mathlib.Core.Path.{_≡_, sym, ap}
+use mathlib.Core.Path.{sym, ap}
 use borrow.Author.Needs.{needs}
 use Rattle.tezvorup_records.specs.Meaning.{modeNumber}
 use Rattle.tezvorup_records.proofs.mode_number.Statement.{statement}
