@@ -7,3 +7,7 @@ pub mod Build
 pub mod Query
 pub mod Master
 pub mod Pieces
+pub mod Sheets
+pub mod SheetReading
+pub mod SheetFaults
+pub mod SheetAnswers

@@ -63,3 +63,22 @@ pub enum MasterAnswer {
     No,
     Refused(u32),
 }
+
+// J12: a refusal's number and byte place, or 0 and the sheet's length.
+pub struct SheetPlace {
+    pub number: u32,
+    pub at: usize,
+}
+
+// J12, J13: the same, with the record of the path that was built from the sheet.
+pub struct SheetAnswer {
+    pub number: u32,
+    pub at: usize,
+    pub path: PathRecord,
+}
+
+// How many bytes of output were written, or the number of a refusal.
+pub struct SheetPrinted {
+    pub number: u32,
+    pub count: usize,
+}

@@ -1,0 +1,3 @@
+pub mod Enough
+pub mod Answers
+pub mod Printed

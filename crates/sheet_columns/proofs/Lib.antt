@@ -1,0 +1,4 @@
+pub mod Exact
+pub mod Columns
+pub mod States
+pub mod Read

@@ -1,0 +1,4 @@
+pub mod Sizes
+pub mod Lists
+pub mod Forms
+pub mod Follow

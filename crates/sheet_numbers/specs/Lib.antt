@@ -1,0 +1,2 @@
+-- What the readings' answers say. Assumes nothing.
+pub mod Says

@@ -1,0 +1,10 @@
+pub mod Limits
+pub mod LimitItems
+pub mod Whole
+pub mod Claims
+pub mod Places
+pub mod Faults
+pub mod Found
+pub mod Precedence
+pub mod Facts
+pub mod Numbers
