@@ -168,7 +168,7 @@ fn doubtful(random: &mut Random) -> Build {
 const FIELDS: usize = 7;
 
 /// The same record, field by field and bit by bit. (What is expected has no NaN.)
-fn same_record(x: &spline_path, y: &spline_path) -> bool {
+pub fn same_record(x: &spline_path, y: &spline_path) -> bool {
     let wholes = |path: &spline_path| (path.order, path.segments, path.axes, path.mode);
     let floats = |path: &spline_path| [path.s_min, path.s_max, path.inv_ds].map(f64::to_bits);
     wholes(x) == wholes(y) && floats(x) == floats(y)

@@ -7,6 +7,11 @@
 //!   queries trials    the last trials of crates/test_query
 //!   masters trials    the last trials of crates/test_master
 //!   builds trials     the last trials of crates/test_build
+//!   sheets compare N  what is compared of job sheets: N judgements, and fewer builds and runs of the program
+//!   sheets time       what is timed of them
+//!   sheets stack      the longest sheets with little stack; `sheets compare` runs it
+//!   sheets watch N    N sheets read and built under valgrind
+//!   sheets trials     sheets with all that is printed of each
 
 use input::{diag, path};
 
@@ -21,16 +26,21 @@ mod query;
 mod random;
 mod rows;
 mod set;
+mod sheet;
+mod sheet_trials;
+mod sheets;
 // The text of src/path/spline.rs, unchanged, with functions after it that hand out what is private there.
 #[allow(dead_code)]
 mod spline;
 mod trials;
+mod typed;
 
 fn compare(percent: u64) {
     fused::compare(800_000 * percent);
     builds::compare(3_000 * percent);
     queries::compare(20_000 * percent);
     masters::compare(20_000 * percent);
+    sheets::compare(15_000 * percent);
 }
 
 fn time() {
@@ -38,6 +48,7 @@ fn time() {
     queries::time();
     fused::time();
     masters::time();
+    sheets::time();
 }
 
 fn main() {
@@ -49,6 +60,11 @@ fn main() {
         ["queries", "trials"] => queries::trials(5_040),
         ["masters", "trials"] => masters::trials(),
         ["builds", "trials"] => builds::trials(),
-        _ => panic!("compare PERCENT, time, or trials of fused, builds, queries or masters"),
+        ["sheets", "compare", count] => sheets::compare(count.parse().expect("a whole number")),
+        ["sheets", "time"] => sheets::time(),
+        ["sheets", "stack"] => sheets::stack(),
+        ["sheets", "watch", count] => sheets::watch(count.parse().expect("a whole number")),
+        ["sheets", "trials"] => sheet_trials::print(),
+        _ => panic!("compare PERCENT, time, trials of fused, builds, queries, masters or sheets, or sheets compare, time, stack or watch"),
     }
 }

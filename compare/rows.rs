@@ -32,6 +32,9 @@ impl Refusals {
     pub fn of(&mut self, number: u32) -> &mut Count {
         self.0.entry(number).or_default()
     }
+    pub fn calls(&self) -> u64 {
+        self.0.values().map(|count| count.calls).sum()
+    }
     pub fn print(&self, what: &str, against: &str) {
         let mut all = Count::default();
         for count in self.0.values() {

@@ -4,8 +4,9 @@
  * buffer holds afterwards. The promises stand in crates/tezvorup/src/lib.rt of the library's text.
  *
  * A call that cannot be served gets one refusal number, and every buffer keeps its contents. No function allocates,
- * keeps anything between calls or ends the program; spline_build takes some 60 KB of stack. Calls from several threads
- * are fine while no two share a buffer that is written.
+ * keeps anything between calls or ends the program. Of the stack spline_build takes some 60 KB, and spline_read_sheet and
+ * spline_build_sheet some 100 KB. Calls from several threads are fine while no two share a buffer that is
+ * written.
  *
  * What the caller owes, since no proof can see it:
  * - a list is a pointer and a count of elements; the pointer is aligned for its type, and that many elements
@@ -35,11 +36,13 @@ enum {
     /* Served. */
     SPLINE_OK = 0,
     /* More than 257 points or 256 segments; or a list of another length: the coefficients of a build, a buffer
-       that the level of a query writes, the table of a master. */
+       that the level of a query writes, the table of a master. On a sheet, a 258th point or a state's 4th number; or
+       coefficients that are fewer than the sheet's table has. */
     SPLINE_INVALID_LENGTH = 2,
-    /* The waypoint list is not axes * points long. */
+    /* The waypoint list is not axes * points long. On a sheet, an axis has another count of points than the first. */
     SPLINE_INVALID_SHAPE = 3,
-    /* A waypoint or a state's number is NaN or infinite; in a master check, a number is beyond 2^40 or -2^40. */
+    /* A waypoint or a state's number is NaN or infinite; in a master check and on a sheet, a number is beyond 2^40 or
+       -2^40. */
     SPLINE_INVALID_ARGUMENT = 4,
     /* No axis, or more than 8. */
     SPLINE_INVALID_DIMENSION = 300,
@@ -58,7 +61,11 @@ enum {
     /* A zero pivot. None has been seen. */
     SPLINE_SINGULAR_SYSTEM = 307,
     /* A level other than 0, 2 and 3. */
-    SPLINE_UNSUPPORTED_DERIVATIVE_ORDER = 308
+    SPLINE_UNSUPPORTED_DERIVATIVE_ORDER = 308,
+    /* A byte that no sheet has there; or the text ends early, or is longer than SPLINE_SHEET_BYTES. */
+    SPLINE_INVALID_SHEET = 600,
+    /* A bracket that opens an item inside four again. */
+    SPLINE_SHEET_TOO_DEEP = 601
 };
 
 /* The kinds of a state, the numbers at an end of the curve. Other kinds are reserved, and refused with 303. */
@@ -110,8 +117,26 @@ typedef struct {
     uint8_t good;
 } spline_check;
 
+/* What reading a job sheet answers: SPLINE_OK and the sheet's length, or a refusal number and its place, a byte counted
+   from 0. The place is the sheet's length where no byte is at fault, but the curve cannot be built. */
+typedef struct {
+    uint32_t number;
+    size_t at;
+} spline_place;
+
+/* What building the curve of a job sheet answers: the same, and the curve's record, which is all zero at a refusal. */
+typedef struct {
+    uint32_t number;
+    size_t at;
+    spline_path path;
+} spline_sheet;
+
 /* How many coefficients a curve has, (order + 1) for each segment of each axis: for array lengths. */
 #define SPLINE_COEFFICIENTS(order, points, axes) ((axes) * ((points) - 1) * ((order) + 1))
+
+/* The longest sheet has so many bytes, and the curve of any sheet at most so many coefficients. */
+#define SPLINE_SHEET_BYTES 32768
+#define SPLINE_SHEET_COEFFICIENTS 16384
 
 /* a * b + c with one rounding, IEEE 754's fused multiply-add, for all a, b and c. */
 double spline_mul_add(double a, double b, double c);
@@ -165,6 +190,39 @@ spline_check spline_check_master(size_t order,
                                  const int64_t *end, size_t end_count,
                                  const int64_t *table, size_t table_count);
 
+/*
+ * Reads a job sheet, and says whether its curve would be built. A sheet is a text in whole numbers, one form a line:
+ *
+ *     (order 3)
+ *     (range 0 2)
+ *     (axis (points 0 4 8) (start 0) (end 0))
+ *
+ * The range is s_min and s_max. There are 1 to 8 lines of axes, each list has one item or more, and start and end have
+ * (order - 1) / 2 numbers on each axis, Taylor coefficients in segment units. An item is a number or stands for several:
+ * (again 3 0 100) is 0 100 0 100 0 100. Its count is 1 to 64, its items may be again forms, and at most four of them
+ * stand inside one another. There is one space between items and a newline after each line, the last one too. A number
+ * below 0 has a minus, none has leading zeros, and there is no -0.
+ *
+ * text          the bytes of the sheet, without an end mark. Only the first SPLINE_SHEET_BYTES are looked at
+ *
+ * Answers SPLINE_OK, or a refusal number, one of 2, 3, 4, 301 to 304, 307, 600 and 601. Nothing is written. That the
+ * sheets taken are exactly these, and the place of each fault, is proved (crates/theorem_sheets/specs).
+ */
+spline_place spline_read_sheet(const uint8_t *text, size_t text_count);
+
+/*
+ * Builds the curve of a job sheet, in mode Error, as spline_build does from the sheet's numbers with states given.
+ *
+ * text          as above
+ * coefficients  their first cells are filled, by axis, then segment, then power; those past the curve's table keep their
+ *               contents. How many are filled is SPLINE_COEFFICIENTS of the record's order, segments + 1 and axes.
+ *               SPLINE_SHEET_COEFFICIENTS cells suffice for every sheet
+ *
+ * Answers as spline_read_sheet does, or 2 and the sheet's length where the cells are fewer than the table has. At a
+ * refusal coefficients hold what they held.
+ */
+spline_sheet spline_build_sheet(const uint8_t *text, size_t text_count, double *coefficients, size_t coefficient_count);
+
 /* ---- two conveniences, not proved */
 
 /* How many coefficients a curve has, or 0 where a build refuses the order or a count. */
@@ -180,11 +238,12 @@ static inline const char *spline_message(uint32_t number) {
     case SPLINE_OK:
         return "served";
     case SPLINE_INVALID_LENGTH:
-        return "there are more than 257 points, or a list that is to be filled or checked has another length";
+        return "there are more than 257 points, a state on a sheet has more than 3 numbers, or a list that is to be "
+               "filled or checked has another length";
     case SPLINE_INVALID_SHAPE:
-        return "the waypoint list is not as long as axes times points";
+        return "the waypoint list is not as long as axes times points, or a sheet's axes differ in their points";
     case SPLINE_INVALID_ARGUMENT:
-        return "a number is not finite, or in a master check beyond 2^40";
+        return "a number is not finite, or in a master check or on a sheet beyond 2^40";
     case SPLINE_INVALID_DIMENSION:
         return "the axes are not 1 to 8";
     case SPLINE_INVALID_RANGE:
@@ -201,6 +260,10 @@ static inline const char *spline_message(uint32_t number) {
         return "a pivot is zero";
     case SPLINE_UNSUPPORTED_DERIVATIVE_ORDER:
         return "the level is not 0, 2 or 3";
+    case SPLINE_INVALID_SHEET:
+        return "no sheet has this byte here, or the sheet ends early or is longer than 32768 bytes";
+    case SPLINE_SHEET_TOO_DEEP:
+        return "a bracket opens inside four again";
     default:
         return "no number of this library";
     }

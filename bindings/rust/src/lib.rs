@@ -13,8 +13,18 @@
 //! # Ok::<(), PathError>(())
 //! ```
 //!
-//! [`from_waypoints_view`] and [`eval_at`] are lent theirs, and allocate nothing. A call that is refused leaves every buffer
-//! as it was. Names are those of copp's `src/path/spline.rs` where it has them.
+//! A job sheet, a text in whole numbers, has all that a curve is built from:
+//!
+//! ```
+//! use tezvorup::{SheetError, SplinePath};
+//!
+//! let path = SplinePath::from_sheet(b"(order 3)\n(range 0 2)\n(axis (points 0 4 8) (start 0) (end 0))\n")?;
+//! assert_eq!(path.coefficients(), [0.0, 0.0, 6.0, -2.0, 4.0, 6.0, 0.0, -2.0]);
+//! # Ok::<(), SheetError>(())
+//! ```
+//!
+//! [`from_waypoints_view`], [`build_sheet`] and [`eval_at`] are lent theirs, and allocate nothing. A call that is refused leaves
+//! every buffer as it was. Names are those of copp's `src/path/spline.rs` where it has them.
 //!
 //! What is proved stands in crates/tezvorup/src/lib.rt of the library's text. This package is not proved: it hands each slice
 //! over as pointer and length, and gives each refusal number its name.
@@ -22,8 +32,9 @@
 
 mod error;
 pub mod raw;
+mod sheet;
 
-pub use error::PathError;
+pub use error::{PathError, SheetError};
 
 /// What a query does with an s outside the range: it refuses it, or takes the nearest end.
 #[derive(Clone, Copy, Debug, Default, PartialEq, Eq)]
@@ -245,6 +256,48 @@ pub fn check_master(order: usize, waypoints: &[i64], start: &[i64], end: &[i64],
     }
 }
 
+/// The longest sheet has so many bytes.
+pub const SHEET_BYTES: usize = 32_768;
+
+/// The curve of any sheet has at most so many coefficients.
+pub const SHEET_COEFFICIENTS: usize = 16_384;
+
+/// Reads a job sheet: whether its curve would be built, and if not, why and at which byte.
+///
+/// A sheet is a text in whole numbers, one form a line: the order, the range of s, then 1 to 8 axes with their points and the
+/// states at both ends. A state has (order − 1) / 2 numbers on each axis, as [`BoundaryState::Given`] has them per segment.
+///
+/// ```
+/// use tezvorup::{read_sheet, PathError, SheetError};
+///
+/// assert_eq!(read_sheet(b"(order 3)\n(range 0 2)\n(axis (points 0 4 8) (start 0) (end 0))\n"), Ok(()));
+/// assert_eq!(read_sheet(b"(order 03)"), Err(SheetError { error: PathError::InvalidSheet { byte: Some(b'3') }, at: 8 }));
+/// ```
+///
+/// In every list `(again 3 0 100)` stands for 0 100 0 100 0 100: the count is 1 to 64, the items may be `again` forms, and at
+/// most four of them stand inside one another. There is one space between items and a newline after each line, the last one
+/// too; no leading zeros and no -0. Numbers are within ±2^40, and a sheet has at most [`SHEET_BYTES`] bytes.
+pub fn read_sheet(text: &[u8]) -> Result<(), SheetError> {
+    // SAFETY: the pointer comes with the length of its slice, and the function takes any bytes and writes nothing.
+    let place = unsafe { raw::spline_read_sheet(text.as_ptr(), text.len()) };
+    match place.number {
+        0 => Ok(()),
+        number => Err(error::of_sheet(number, place.at, text, 0)),
+    }
+}
+
+/// Builds the curve of a job sheet (see [`read_sheet`]), in [`OutOfRangeMode::Error`], into the first cells of a buffer: by axis,
+/// then segment, then power. The cells past the curve's table keep their contents. [`SHEET_COEFFICIENTS`] cells suffice for
+/// every sheet, and fewer than the table has are refused. Refused, the buffer holds what it held.
+pub fn build_sheet(text: &[u8], coeffs: &mut [f64]) -> Result<PathRecord, SheetError> {
+    // SAFETY: as in `from_waypoints_view`; the function takes any bytes.
+    let answer = unsafe { raw::spline_build_sheet(text.as_ptr(), text.len(), coeffs.as_mut_ptr(), coeffs.len()) };
+    match answer.number {
+        0 => Ok(answer.path.into()),
+        number => Err(error::of_sheet(number, answer.at, text, coeffs.len())),
+    }
+}
+
 /// A curve that owns its coefficients.
 #[derive(Clone, Debug)]
 pub struct SplinePath {
@@ -268,6 +321,28 @@ impl SplinePath {
         // SAFETY: the arrays lie one after the other, and so do their numbers.
         let numbers = unsafe { std::slice::from_raw_parts(points.as_ptr().cast::<f64>(), points.len() * D) };
         Self::from_waypoints(config, D, numbers)
+    }
+
+    /// The curve of a job sheet (see [`read_sheet`]), in [`OutOfRangeMode::Error`].
+    ///
+    /// ```
+    /// use tezvorup::{SheetError, SplinePath};
+    ///
+    /// let path = SplinePath::from_sheet(b"(order 3)\n(range 0 2)\n(axis (points 0 4 8) (start 0) (end 0))\n")?;
+    /// assert_eq!((path.record().order, path.record().segments, path.record().axes), (3, 2, 1));
+    /// let bits: Vec<String> = path.coefficients()[4..].iter().map(|x| format!("{:016x}", x.to_bits())).collect();
+    /// assert_eq!(bits, ["4010000000000000", "4018000000000000", "0000000000000000", "c000000000000000"]);
+    ///
+    /// let refused = SplinePath::from_sheet(b"(order 3)\n(range 0 2)\n(axis (points 0 4 8) (start 0 0) (end 0))\n").unwrap_err();
+    /// assert_eq!((refused.number(), refused.at), (303, 64));
+    /// # Ok::<(), SheetError>(())
+    /// ```
+    pub fn from_sheet(text: &[u8]) -> Result<Self, SheetError> {
+        let mut coeffs = vec![0.0; SHEET_COEFFICIENTS];
+        let record = build_sheet(text, &mut coeffs)?;
+        coeffs.truncate(coefficient_count(record.order, record.segments + 1, record.axes));
+        coeffs.shrink_to_fit();
+        Ok(SplinePath { record, coeffs })
     }
 
     /// Position and derivatives at s into the buffers given, one number an axis in each: one buffer gets the position; three

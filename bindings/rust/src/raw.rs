@@ -46,6 +46,21 @@ pub struct spline_check {
     pub good: u8,
 }
 
+#[repr(C)]
+#[derive(Clone, Copy, Debug, Default, PartialEq)]
+pub struct spline_place {
+    pub number: u32,
+    pub at: usize,
+}
+
+#[repr(C)]
+#[derive(Clone, Copy, Debug, Default, PartialEq)]
+pub struct spline_sheet {
+    pub number: u32,
+    pub at: usize,
+    pub path: spline_path,
+}
+
 #[link(name = "tezvorup", kind = "static")]
 extern "C" {
     pub fn spline_mul_add(a: f64, b: f64, c: f64) -> f64;
@@ -88,4 +103,6 @@ extern "C" {
         table: *const i64,
         table_count: usize,
     ) -> spline_check;
+    pub fn spline_read_sheet(text: *const u8, text_count: usize) -> spline_place;
+    pub fn spline_build_sheet(text: *const u8, text_count: usize, coefficients: *mut f64, coefficient_count: usize) -> spline_sheet;
 }

@@ -44,8 +44,8 @@ unfoldable pub times : {A : Type 0} → ℕ → List A → List A
 times zero xs = []
 times (suc n) xs = xs ++ times n xs
 
--- J5: "`(again 3 0 100)` stands for 0 100 0 100 0 100"
 unfoldable mutual
+  -- J5: "`(again 3 0 100)` stands for 0 100 0 100 0 100"
   pub numbersOf : Item → List ℤ
   numbersOf (whole z) = z ∷ []
   numbersOf (again n items) = times n (numbers items)

@@ -49,8 +49,8 @@ use Rattle.rules.specs.SheetReading.{Read, got, stop, sheetOf}
 pub data Refusal : Type 0 where
   refusal : ℕ → ℕ → Refusal
 
--- J23: how many numbers an item or a list stands for, not written out
 unfoldable mutual
+  -- J23: how many numbers an item stands for, and a list, not written out
   pub sizeOf : Item → ℕ
   sizeOf (whole z) = 1
   sizeOf (again n items) = n * size items

@@ -16,12 +16,13 @@ bytes (c «then» s) = code c ∷ bytes s
 
 -- ---- trees
 
--- J4, J6: "an item of a list may be a number or a bracketed list of items, always headed `again`", with a count; "one or more items .. (as in every list)"
 mutual
+  -- J4: "an item of a list may be a number or a bracketed list of items, always headed `again`", with a count
   pub data Item : Type 0 where
     whole : ℤ → Item
     again : ℕ → Items → Item
 
+  -- J6: "one or more items .. (as in every list)"
   pub data Items : Type 0 where
     one : Item → Items
     more : Item → Items → Items
@@ -63,12 +64,13 @@ unfoldable pub signed : ℤ → List ℕ
 signed (pos n) = natural n
 signed (negsuc n) = bytes "-" ++ natural (suc n)
 
--- J2, J4: an item; a list, "one space between items", with the bracket that closes it
 unfoldable mutual
+  -- J4: a number, or a form with its count
   pub spellItem : Item → List ℕ
   spellItem (whole z) = signed z
   spellItem (again n items) = bytes "(again " ++ (natural n ++ (bytes " " ++ spellItems items))
 
+  -- J2: "one space between items", and the bracket that closes the list
   pub spellItems : Items → List ℕ
   spellItems (one i) = spellItem i ++ bytes ")"
   spellItems (more i items) = spellItem i ++ (bytes " " ++ spellItems items)
@@ -98,8 +100,9 @@ spellSheet (sheet h axes) = spellHeading h ++ spellAxes axes
 
 -- `fits`: which magnitudes a number may have; `opens`: inside how many `again` forms an item may be one more
 module _ (fits : ℕ → Bool) (opens : ℕ → Bool) where
-  -- J6, J20: "with 1 to 64 as the count": an item, and a list, inside d forms
+  -- an item, and a list, inside d forms
   unfoldable mutual
+    -- J6, J20: "with 1 to 64 as the count"
     pub ValidItem : Item → ℕ → Type 0
     ValidItem (whole z) d = fits (natAbs z) ≡ true
     ValidItem (again n items) d = (opens d ≡ true) × ((1 ≤ n) × (n ≤ 64)) × ValidItems items (suc d)

@@ -15,12 +15,34 @@ use borrow.Author.Tests.{eqb-true}
 use Rattle.rules.specs.declared.PathRecord.{PathRecord}
 use Rattle.rules.specs.declared.BuildAnswer.{BuildAnswer}
 use Rattle.rules.specs.Build.{
-  BuildInput, validOrder, validAxes, inputQuestions, pivotQuestions, buildQuestions, buildNumber, buildAnswer, acceptedRecord, refusedRecord, bufferAfter, table,
+  BuildInput,
+  validOrder,
+  validAxes,
+  inputQuestions,
+  pivotQuestions,
+  buildQuestions,
+  buildNumber,
+  buildAnswer,
+  acceptedRecord,
+  refusedRecord,
+  bufferAfter,
+  table,
 }
 use Rattle.rules.specs.Sheets.{Sheet}
 use Rattle.rules.specs.SheetFaults.{Judged, readable, refused, judge}
 use Rattle.rules.specs.SheetAnswers.{
-  sheetInput, cellsOf, answerFor, sheetAnswer, sheetServed, bufferFor, sheetBuffer, sheetPlace, mostCells, tableFor, tableOutput, refusedOutput,
+  sheetInput,
+  cellsOf,
+  answerFor,
+  sheetAnswer,
+  sheetServed,
+  bufferFor,
+  sheetBuffer,
+  sheetPlace,
+  mostCells,
+  tableFor,
+  tableOutput,
+  refusedOutput,
 }
 use Rattle.rules.proofs.Questions.{answerAt, said-yes}
 use Rattle.rules.proofs.Build.{by-order, length-table}
@@ -72,7 +94,7 @@ place-refused t k place e = rw e
 module _ (t : List ℕ) (before : List Float) where
   pub built : (s : Sheet) (a : BuildAnswer) (after : List Float) → judge t ≡ readable s
       → let b = sheetInput s in
-        (a ≡ buildAnswer b (min (length before) (cellsOf b))) × (after ≡ bufferAfter b (take (cellsOf b) before) ++ drop (cellsOf b) before)
+      (a ≡ buildAnswer b (min (length before) (cellsOf b))) × (after ≡ bufferAfter b (take (cellsOf b) before) ++ drop (cellsOf b) before)
       → (record { number = a .number; at = length t; path = a .path } ≡ sheetAnswer t (length before)) × (after ≡ sheetBuffer t before)
   unfolding sheetAnswer answerFor sheetBuffer bufferFor
   built s a after e h = (rw (e, h .0), rw e (h .1))
@@ -141,13 +163,13 @@ module _ (t : List ℕ) (before : List Float) (h : mostCells ≤ length before) 
   -- of a build, by its number
   output-of : (b : BuildInput) (n : ℕ) (path : PathRecord) → n ≡ buildNumber b (cellsOf b) → path ≡ cond (eqb n 0) (acceptedRecord b) refusedRecord
       → outputOf (record { number = n; at = length t; path = path }) (bufferAfter b (take (cellsOf b) before) ++ drop (cellsOf b) before)
-        ≡ cond (eqb n 0) (tableOutput path (table b)) (refusedOutput n (length t))
+      ≡ cond (eqb n 0) (tableOutput path (table b)) (refusedOutput n (length t))
   unfolding outputOf
   output-of b n path e p = go (eqb n 0) refl
     where
       go : (x : Bool) → eqb n 0 ≡ x
           → outputOf (record { number = n; at = length t; path = path }) (bufferAfter b (take (cellsOf b) before) ++ drop (cellsOf b) before)
-            ≡ cond (eqb n 0) (tableOutput path (table b)) (refusedOutput n (length t))
+          ≡ cond (eqb n 0) (tableOutput path (table b)) (refusedOutput n (length t))
       go false f = rw f
       go true f =
           let z : buildNumber b (cellsOf b) ≡ 0 = sym e ∙ eqb-true n 0 f in
@@ -157,8 +179,8 @@ module _ (t : List ℕ) (before : List Float) (h : mostCells ≤ length before) 
 
   pub output-is : (j : Judged)
       → outputOf (answerFor t j cellsOf) (bufferFor j before)
-        ≡ cond (eqb (answerFor t j cellsOf .number) 0) (tableOutput (answerFor t j cellsOf .path) (tableFor j))
-          (refusedOutput (answerFor t j cellsOf .number) (answerFor t j cellsOf .at))
+      ≡ cond (eqb (answerFor t j cellsOf .number) 0) (tableOutput (answerFor t j cellsOf .path) (tableFor j))
+      (refusedOutput (answerFor t j cellsOf .number) (answerFor t j cellsOf .at))
   unfolding outputOf answerFor bufferFor tableFor refusedRecord buildAnswer
   output-is (refused k place) = refl
   output-is (readable s) = output-of (sheetInput s) (buildNumber (sheetInput s) (cellsOf (sheetInput s))) _ refl refl

@@ -10,7 +10,19 @@ use borrow.Author.Tests.{le-leb, lt-leb}
 use Rattle.rules.specs.declared.SheetAnswer.{SheetAnswer}
 use Rattle.rules.specs.SheetFaults.{judge}
 use Rattle.rules.specs.SheetAnswers.{
-  cellsOf, answerFor, sheetAnswer, sheetServed, bufferFor, sheetBuffer, sheetOutput, sheetPrinted, printedCells, printedBytes, mostCells, mostBytes, suffice,
+  cellsOf,
+  answerFor,
+  sheetAnswer,
+  sheetServed,
+  bufferFor,
+  sheetBuffer,
+  sheetOutput,
+  sheetPrinted,
+  printedCells,
+  printedBytes,
+  mostCells,
+  mostBytes,
+  suffice,
 }
 use Rattle.sheet.specs.LongEnough.{LongEnough}
 use Rattle.sheet.specs.Printing.{Printable, outputOf}
@@ -25,18 +37,18 @@ module _ (t : List ℕ) (cells : List Float) (out : List ℕ) where
   -- a buffer is too short
   refused-all : suffice (length cells) (length out) ≡ false
       → (record { number = 2; count = 0 } ≡ sheetPrinted t (length cells) (length out)) × (cells ≡ printedCells t cells (length out))
-        × (out ≡ printedBytes t (length cells) out)
+      × (out ≡ printedBytes t (length cells) out)
   unfolding sheetPrinted printedCells printedBytes
   refused-all e = (rw e, rw e, rw e)
 
   pub too-few-cells : length cells < mostCells
       → (record { number = 2; count = 0 } ≡ sheetPrinted t (length cells) (length out)) × (cells ≡ printedCells t cells (length out))
-        × (out ≡ printedBytes t (length cells) out)
+      × (out ≡ printedBytes t (length cells) out)
   too-few-cells h = refused-all (rw (lt-leb mostCells (length cells) h))
 
   pub too-few-bytes : length out < mostBytes
       → (record { number = 2; count = 0 } ≡ sheetPrinted t (length cells) (length out)) × (cells ≡ printedCells t cells (length out))
-        × (out ≡ printedBytes t (length cells) out)
+      × (out ≡ printedBytes t (length cells) out)
   too-few-bytes h = refused-all (rw (lt-leb mostBytes (length out) h) (nothing (leb mostCells (length cells))))
 
 -- the buffers suffice
@@ -64,7 +76,7 @@ pub printed : (t : List ℕ) (cells : List Float) (out : List ℕ) → mostCells
     → (a ≡ sheetAnswer t (length cells)) × (after ≡ sheetBuffer t cells) → (count : ℕ) (bytes : List ℕ)
     → (count ≡ length (outputOf a after)) × (bytes ≡ outputOf a after ++ drop (length (outputOf a after)) out)
     → (record { number = 0; count = count } ≡ sheetPrinted t (length cells) (length out)) × (after ≡ printedCells t cells (length out))
-      × (bytes ≡ printedBytes t (length cells) out)
+    × (bytes ≡ printedBytes t (length cells) out)
 unfolding sheetPrinted printedCells printedBytes
 printed t cells out h k a after b count bytes w =
     let s : suffice (length cells) (length out) ≡ true = rw (le-leb mostCells (length cells) h, le-leb mostBytes (length out) k) in

@@ -6,7 +6,13 @@ ghost use Prim.Native.Nat.{_≤_};
 ghost use lib.ListN.{length, drop};
 ghost use Rattle.rules.specs.Build.{refusedRecord};
 ghost use Rattle.rules.specs.SheetAnswers.{
-    sheetPlace, sheetAnswer, sheetBuffer, mostBytes, sheetPrinted, printedCells, printedBytes,
+  sheetPlace,
+  sheetAnswer,
+  sheetBuffer,
+  mostBytes,
+  sheetPrinted,
+  printedCells,
+  printedBytes,
 };
 ghost use Rattle.sheet.specs.Printing.{Printable, outputOf};
 use rules::OutOfRangeMode;
@@ -46,7 +52,7 @@ pub fn read_place(text: &[u8]) -> SheetPlace
             let number = sheet_questions::number_of(n, &points, &start, &end);
             SheetPlace {
                 number,
-                at: text.len(),
+                at: text.len(), // J13: of the questions
             }
         }
         SheetRead::Refused { number, at } => SheetPlace { number, at },
@@ -69,7 +75,7 @@ pub fn build_sheet(text: &[u8], coeffs: &mut [f64]) -> SheetAnswer
             let path = built.path;
             SheetAnswer {
                 number: built.number,
-                at: text.len(),
+                at: text.len(), // J13: of the build
                 path,
             }
         }
@@ -103,10 +109,16 @@ pub fn print_sheet(text: &[u8], coeffs: &mut [f64], out: &mut [u8]) -> SheetPrin
         × (now (out .exit) ≡ printedBytes (now (text .entry)) (length (now (coeffs .entry))) (now (out .entry))) ⌝ }
 {
     if coeffs.len() < 16384 {
-        return SheetPrinted { number: 2, count: 0 };
+        return SheetPrinted {
+            number: 2,
+            count: 0,
+        };
     }
     if out.len() < 302240 {
-        return SheetPrinted { number: 2, count: 0 };
+        return SheetPrinted {
+            number: 2,
+            count: 0,
+        };
     }
     let answer = build_sheet(text, coeffs);
     let count = write_answer(answer, coeffs, out);

@@ -122,9 +122,17 @@ module _ (k : ℕ) (room : k < 8) (stride : ℕ) (out : List ℤ) (e : length ou
   pub still-long : (p : List ℤ) → length p ≡ length (part-of k stride out) → length (with-part k stride out p) ≡ 8 * stride
   still-long p h =
       length-append (take (k * stride) out) (p ++ drop (k * stride + stride - k * stride) (drop (k * stride) out))
-      ∙ omega (arith, inside, e, h, part-long, length-take-le (k * stride) out (omega (arith, inside)),
-        length-append p (drop (k * stride + stride - k * stride) (drop (k * stride) out)), length-drop (k * stride + stride - k * stride) (drop (k * stride) out),
-        length-drop (k * stride) out)
+      ∙ omega (
+        arith,
+        inside,
+        e,
+        h,
+        part-long,
+        length-take-le (k * stride) out (omega (arith, inside)),
+        length-append p (drop (k * stride + stride - k * stride) (drop (k * stride) out)),
+        length-drop (k * stride + stride - k * stride) (drop (k * stride) out),
+        length-drop (k * stride) out,
+      )
 
 module _ (text : List ℕ) (from k place : ℕ) (z : AxesSizes) (points start end : List ℤ) (s : Sofar text from k place z points start end) (room : k < 8)
     (lp : length points ≡ 2064) (ls : length start ≡ 32) (le : length end ≡ 32) where
@@ -157,7 +165,7 @@ module _ (text : List ℕ) (from k place : ℕ) (z : AxesSizes) (points start en
     -- the first refusal, with this axis's
     first-on : (c : ℕ) (rest : List Refusal) → (z .number ≡ 0 → c ≡ cond (eqb k 0) (size (t .pts)) (z .points))
         → orElse (placeOf (z .number) (z .at)) (firstPlace (axisSizes c place ax ++ rest))
-          ≡ orElse (placeOf (sizes .number) (sizes .at)) (firstPlace rest)
+        ≡ orElse (placeOf (sizes .number) (sizes .at)) (firstPlace rest)
     unfolding withAxis ax
     first-on c rest h = go (eqb (z .number) 0) refl
       where
@@ -165,9 +173,10 @@ module _ (text : List ℕ) (from k place : ℕ) (z : AxesSizes) (points start en
         same e l =
             let x = exact _ _ 257 (part-of k 258 points) (t .pts) (y .points) p long-p (t .points-in) l in
             rw (h e, x)
+
         go : (b : Bool) → eqb (z .number) 0 ≡ b
             → orElse (placeOf (z .number) (z .at)) (firstPlace (axisSizes c place (axis (t .pts) (states (t .starts) (t .ends))) ++ rest))
-              ≡ orElse (placeOf (sizes .number) (sizes .at)) (firstPlace rest)
+            ≡ orElse (placeOf (sizes .number) (sizes .at)) (firstPlace rest)
         go true e =
             rw e (axis-fault text place (part-of k 258 points) (part-of k 4 start) (part-of k 4 end) long-p long-q long-r y p q r t c
             (cond (eqb k 0) (y .points) (z .points)) (same (eqb-true (z .number) 0 e)) rest)
@@ -194,19 +203,25 @@ module _ (text : List ℕ) (from k place : ℕ) (z : AxesSizes) (points start en
       where
         both : (z .number ≡ 0) × (faultOf y count .number ≡ 0)
         both = still-0 (eqb (z .number) 0) (z .number) (faultOf y count) (z .at) refl h
+
         old : Sound (s .done) k z points start end
         old = s .clean (both .0)
+
         is : (size (t .pts) ≤ 257) × (y .points ≡ count) × (size (t .starts) ≤ 3) × (size (t .ends) ≤ 3)
         is = no-fault-means text place (part-of k 258 points) (part-of k 4 start) (part-of k 4 end) long-p long-q long-r y p q r t count (both .1)
+
         exactly : (y .points ≡ size (t .pts)) × (y .start ≡ size (t .starts)) × (y .end ≡ size (t .ends))
         exactly = sizes-exact text place (part-of k 258 points) (part-of k 4 start) (part-of k 4 end) long-p long-q long-r y p q r t (is .0) (is .2) (is .3)
+
         columns : (f : Axis → List ℤ) → togetherOf k (columnsOf (ofEach f (s .done))) (length (f ax)) ≡ columnsOf (ofEach f (s .done ++ (ax ∷ [])))
         columns f = columns-more (ofEach f (s .done)) (f ax) k (each-length f (s .done) ∙ s .many) ∙ ap columnsOf (sym (each-more f (s .done) ax))
+
         kept : (stride : ℕ) (f : Axis → List ℤ) (out o : List ℤ) → Keeps stride (ofEach f (s .done)) out → length (f ax) ≤ stride → AllNear (f ax)
             → o ≡ put (part-of k stride out) 0 (f ax) → Keeps stride (ofEach f (s .done ++ (ax ∷ []))) (with-part k stride out o)
         kept stride f out o g l n e =
             subst (λ x. Keeps stride x (with-part k stride out o)) (sym (each-more f (s .done) ax))
             (keeps-more stride (ofEach f (s .done)) out k (each-length f (s .done) ∙ s .many) room g (f ax) l n o e)
+
         alike-at : (a : ℕ) (b : Bool) → ltb a k ≡ b → a < length (s .done ++ (ax ∷ []))
             → length (getD (ofEach pointsOf (s .done ++ (ax ∷ []))) a []) ≡ cond (eqb k 0) (y .points) (z .points)
         alike-at a true b l =
@@ -258,7 +273,7 @@ module _ (text : List ℕ) (from k place : ℕ) (z : AxesSizes) (points start en
 
     first-next : (axes : Axes)
         → orElse (placeOf (z .number) (z .at)) (firstPlace (axesSizes (firstCount (s .pre (next ax axes))) place (next ax axes)))
-          ≡ orElse (placeOf (sizes .number) (sizes .at)) (firstPlace (axesSizes (firstCount (s .pre (next ax axes))) (y .next) axes))
+        ≡ orElse (placeOf (sizes .number) (sizes .at)) (firstPlace (axesSizes (firstCount (s .pre (next ax axes))) (y .next) axes))
     unfolding axesSizes
     first-next axes =
         first-on (firstCount (s .pre (next ax axes))) (axesSizes (firstCount (s .pre (next ax axes))) (place + length (spellAxis ax)) axes)
@@ -290,7 +305,7 @@ module _ (text : List ℕ) (from k place : ℕ) (z : AxesSizes) (points start en
 
     reads-last : length text ≤ y .next → (n : ℕ) → length text < n
         → reading.then (reading.readAxes within below4 (8 - k) n (drop place text)) (λ axes rest. reading.got (s .pre axes) rest)
-          ≡ reading.got (s .pre (only ax)) (drop (length text) text)
+        ≡ reading.got (s .pre (only ax)) (drop (length text) text)
     unfolding reading.readAxes reading.then ax
     reads-last l n h = rw (less, reading.readAxes, t .reads .says n h, drop-of-length-le text l, ended)
 

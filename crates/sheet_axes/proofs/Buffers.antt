@@ -78,15 +78,27 @@ module _ (stride : ℕ) (lists : List (List ℤ)) (buffer : List ℤ) (k : ℕ) 
     where
       long : length p ≡ stride
       long = ap length e ∙ length-put part 0 xs (omega arith) ∙ part-length
+
       room : length (back p) ≡ 8 * stride
       room =
           length-append (take (k * stride) buffer) (p ++ drop (k * stride + stride - k * stride) (drop (k * stride) buffer))
-          ∙ omega (arith, front, long, inside, s .held .room, length-append p (drop (k * stride + stride - k * stride) (drop (k * stride) buffer)),
-            length-drop (k * stride + stride - k * stride) (drop (k * stride) buffer), length-drop (k * stride) buffer)
+          ∙ omega (
+            arith,
+            front,
+            long,
+            inside,
+            s .held .room,
+            length-append p (drop (k * stride + stride - k * stride) (drop (k * stride) buffer)),
+            length-drop (k * stride + stride - k * stride) (drop (k * stride) buffer),
+            length-drop (k * stride) buffer,
+          )
+
       last : (a : ℕ) → ltb a k ≡ false → a < length (lists ++ (xs ∷ [])) → a ≡ length lists
       last a b h = let n = ltb-false a k b in omega (arith, many, length-append lists (xs ∷ []))
+
       early : (a : ℕ) → ltb a k ≡ true → a < length lists
       early a b = let n = ltb-true a k b in omega (arith, many)
+
       at : (a i : ℕ) (b : Bool) → ltb a k ≡ b → a < length (lists ++ (xs ∷ [])) → i < length (getD (lists ++ (xs ∷ [])) a [])
           → getD (back p) (a * stride + i) (pos 0) ≡ cell (lists ++ (xs ∷ [])) a i
       at a i true b h l =
@@ -108,6 +120,7 @@ module _ (stride : ℕ) (lists : List (List ℤ)) (buffer : List ℤ) (k : ℕ) 
           ∙ ap (λ x. getD x i (pos 0)) e
           ∙ put-at part xs i l' (omega (arith, part-length))
           ∙ ap (λ x. getD x i (pos 0)) (sym o)
+
       near-at : (a i : ℕ) (b : Bool) → ltb a k ≡ b → a < length (lists ++ (xs ∷ [])) → i < length (getD (lists ++ (xs ∷ [])) a [])
           → Near (cell (lists ++ (xs ∷ [])) a i)
       near-at a i true b h l =
@@ -116,6 +129,7 @@ module _ (stride : ℕ) (lists : List (List ℤ)) (buffer : List ℤ) (k : ℕ) 
       near-at a i false b h l =
           let o : getD (lists ++ (xs ∷ [])) a [] ≡ xs = ap (λ n. getD (lists ++ (xs ∷ [])) n []) (last a b h) ∙ the-last lists xs in
           subst (λ x. Near (getD x i (pos 0))) (sym o) (near i (subst (λ x. i < length x) o l))
+
       short-at : (a : ℕ) (b : Bool) → ltb a k ≡ b → a < length (lists ++ (xs ∷ [])) → length (getD (lists ++ (xs ∷ [])) a []) ≤ stride
       short-at a true b h = subst (λ x. length x ≤ stride) (sym (one-more lists xs a (early a b))) (s .short a (early a b))
       short-at a false b h =

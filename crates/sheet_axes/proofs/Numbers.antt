@@ -43,6 +43,7 @@ near-one z h (suc j) l = absurd (omega arith)
 
 mutual
   unfolding ValidItem numbersOf
+
   item-near : (i : Item) (d : ℕ) → ValidItem within below4 i d → AllNear (numbersOf i)
   item-near (whole z) d v = near-one z (leb-true (natAbs z) (2 ^ 40) v)
   item-near (again n items) d v = near-times n (numbers items) (list-near items (suc d) (v .2))
@@ -53,6 +54,7 @@ mutual
 
 mutual
   unfolding ValidItem sizeOf
+
   item-some : (i : Item) (d : ℕ) → ValidItem within below4 i d → 1 ≤ sizeOf i
   item-some (whole z) d v = omega arith
   item-some (again n items) d v = omega (arith, mul-le-mul (v .1 .0) (list-some items (suc d) (v .2)))

@@ -33,9 +33,9 @@ refused-later room place i items e = rw (e, over)
 
 over-step : (room place : ℕ) (i : Item) (items : Items) (rest : List Refusal)
     → firstPlace (over (room - sizeOf i) (place + length (spellItem i ++ bytes " ")) items ++ rest)
-      ≡ cond (ltb (room - sizeOf i) (size items)) (placeOf 2 (overAt (room - sizeOf i) (place + length (spellItem i ++ bytes " ")) items)) (firstPlace rest)
+    ≡ cond (ltb (room - sizeOf i) (size items)) (placeOf 2 (overAt (room - sizeOf i) (place + length (spellItem i ++ bytes " ")) items)) (firstPlace rest)
     → firstPlace (over room place (more i items) ++ rest)
-      ≡ cond (ltb room (sizeOf i + size items)) (placeOf 2 (overAt room place (more i items))) (firstPlace rest)
+    ≡ cond (ltb room (sizeOf i + size items)) (placeOf 2 (overAt room place (more i items))) (firstPlace rest)
 unfolding firstPlace
 over-step room place i items rest ih = go (ltb room (sizeOf i)) refl
   where
@@ -44,12 +44,14 @@ over-step room place i items rest ih = go (ltb room (sizeOf i)) refl
       where
         m : sizeOf i ≤ room
         m = ltb-false room (sizeOf i) e
+
         side : (b : Bool) → ltb (room - sizeOf i) (size items) ≡ b → ltb (room - sizeOf i) (size items) ≡ ltb room (sizeOf i + size items)
         side true f = f ∙ sym (lt-ltb room (sizeOf i + size items) (let n = ltb-true (room - sizeOf i) (size items) f in omega (arith, m)))
         side false f = f ∙ sym (le-ltb room (sizeOf i + size items) (let n = ltb-false (room - sizeOf i) (size items) f in omega (arith, m)))
+
     go : (b : Bool) → ltb room (sizeOf i) ≡ b
         → firstPlace (over room place (more i items) ++ rest)
-          ≡ cond (ltb room (sizeOf i + size items)) (placeOf 2 (overAt room place (more i items))) (firstPlace rest)
+        ≡ cond (ltb room (sizeOf i + size items)) (placeOf 2 (overAt room place (more i items))) (firstPlace rest)
     go true e =
         let m = ltb-true room (sizeOf i) e in
         rw (refused-here room place i items e, over-here room place i items e, lt-ltb room (sizeOf i + size items) (omega arith))
@@ -161,9 +163,12 @@ module _ (text : List ℕ) (place : ℕ) (points start end : List ℤ) (lp : len
       → (size (t .pts) ≤ 257) × (z .points ≡ count) × (size (t .starts) ≤ 3) × (size (t .ends) ≤ 3)
   unfolding faultOf
   no-fault-means count h =
-      let (p, q, s, e) = no-fault (leb 258 (z .points)) (eqb (z .points) count) (leb 4 (z .start)) (leb 4 (z .end)) _ _ _ _ h in
-      (ltb-false 257 (size (t .pts)) (sym in-points ∙ p), eqb-true (z .points) count q, ltb-false 3 (size (t .starts)) (sym in-start ∙ s),
-      ltb-false 3 (size (t .ends)) (sym in-end ∙ e))
+      let (p, q, s, e) = no-fault (leb 258 (z .points)) (eqb (z .points) count) (leb 4 (z .start)) (leb 4 (z .end)) _ _ _ _ h in (
+        ltb-false 257 (size (t .pts)) (sym in-points ∙ p),
+        eqb-true (z .points) count q,
+        ltb-false 3 (size (t .starts)) (sym in-start ∙ s),
+        ltb-false 3 (size (t .ends)) (sym in-end ∙ e),
+      )
 
   pub sizes-exact : size (t .pts) ≤ 257 → size (t .starts) ≤ 3 → size (t .ends) ≤ 3
       → (z .points ≡ size (t .pts)) × (z .start ≡ size (t .starts)) × (z .end ≡ size (t .ends))
@@ -183,28 +188,32 @@ module _ (text : List ℕ) (place : ℕ) (points start end : List ℤ) (lp : len
     where
       close : place + length (bytes "(axis (points ") + length (spellItems (t .pts)) - 1 ≡ z .close
       close = sym (t .close-is)
+
       first : overAt 257 (place + length (bytes "(axis (points ")) (t .pts) ≡ z .«points_over»
       first = sym (over-is _ _ 257 points (t .pts) (z .points) a lp (t .points-in))
+
       second : overAt 3 (place + length (bytes "(axis (points ") + length (spellItems (t .pts)) + length (bytes " (start ")) (t .starts) ≡ z .«start_over»
       second =
           let e : place + length (bytes "(axis (points ") + length (spellItems (t .pts)) + length (bytes " (start ")
-                ≡ z .close + 1 + length (bytes " (start ") = omega (arith, close) in
+          ≡ z .close + 1 + length (bytes " (start ") = omega (arith, close) in
           ap (λ n. overAt 3 n (t .starts)) e ∙ sym (over-is _ _ 3 start (t .starts) (z .start) b ls (t .start-in))
+
       third : overAt 3 (place + length (bytes "(axis (points ") + length (spellItems (t .pts)) + length (bytes " (start ")
           + length (spellItems (t .starts) ++ bytes " (end ")) (t .ends) ≡ z .«end_over»
       third =
           let e : place + length (bytes "(axis (points ") + length (spellItems (t .pts)) + length (bytes " (start ") + length (spellItems (t .starts) ++ bytes " (end ")
-                ≡ z .close + 1 + length (bytes " (start ") + length (spellItems (t .starts)) + length (bytes " (end ")
-                = omega (arith, close, length-append (spellItems (t .starts)) (bytes " (end ")) in
+          ≡ z .close + 1 + length (bytes " (start ") + length (spellItems (t .starts)) + length (bytes " (end ")
+          = omega (arith, close, length-append (spellItems (t .starts)) (bytes " (end ")) in
           ap (λ n. overAt 3 n (t .ends)) e ∙ sym (over-is _ _ 3 end (t .ends) (z .end) d le (t .end-in))
+
       go : (x : Bool) → ltb 257 (size (t .pts)) ≡ x
           → chosen (ltb 257 (size (t .pts))) (eqb (size (t .pts)) c) (ltb 3 (size (t .starts))) (ltb 3 (size (t .ends)))
-              (overAt 257 (place + length (bytes "(axis (points ")) (t .pts))
-              (overAt 3 (place + length (bytes "(axis (points ") + length (spellItems (t .pts)) + length (bytes " (start ")) (t .starts))
-              (overAt 3 (place + length (bytes "(axis (points ") + length (spellItems (t .pts)) + length (bytes " (start ")
-                + length (spellItems (t .starts) ++ bytes " (end ")) (t .ends))
-              (place + length (bytes "(axis (points ") + length (spellItems (t .pts)) - 1) (firstPlace rest)
-            ≡ chosen (leb 258 (z .points)) (eqb (z .points) count) (leb 4 (z .start)) (leb 4 (z .end)) (z .«points_over») (z .«start_over») (z .«end_over»)
-              (z .close) (firstPlace rest)
+          (overAt 257 (place + length (bytes "(axis (points ")) (t .pts))
+          (overAt 3 (place + length (bytes "(axis (points ") + length (spellItems (t .pts)) + length (bytes " (start ")) (t .starts))
+          (overAt 3 (place + length (bytes "(axis (points ") + length (spellItems (t .pts)) + length (bytes " (start ")
+          + length (spellItems (t .starts) ++ bytes " (end ")) (t .ends))
+          (place + length (bytes "(axis (points ") + length (spellItems (t .pts)) - 1) (firstPlace rest)
+          ≡ chosen (leb 258 (z .points)) (eqb (z .points) count) (leb 4 (z .start)) (leb 4 (z .end)) (z .«points_over») (z .«start_over») (z .«end_over»)
+          (z .close) (firstPlace rest)
       go true e = rw (in-points, e, first)
       go false e = rw (in-points, e, same (ltb-false 257 (size (t .pts)) e), in-start, in-end, second, third, close)

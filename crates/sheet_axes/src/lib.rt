@@ -74,7 +74,13 @@ fn with_axis(k: usize, sofar: AxesSizes, z: AxisSizes) -> AxesSizes
 }
 
 // J1, J20: the axes, 8 at the most, to the end of the text.
-pub fn read_axes(text: &[u8], from: usize, points: &mut [i64], start: &mut [i64], end: &mut [i64]) -> AxesRead
+pub fn read_axes(
+    text: &[u8],
+    from: usize,
+    points: &mut [i64],
+    start: &mut [i64],
+    end: &mut [i64],
+) -> AxesRead
     requires { ⌜ (from ≤ length (now text)) × (length (now points) ≡ 2064) × (length (now start) ≡ 32) × (length (now end) ≡ 32) ⌝ }
     ensures { λ r. ⌜ AxesSay (now (text .entry)) from r (now (points .exit)) (now (start .exit)) (now (end .exit)) ⌝ }
 {
@@ -111,5 +117,8 @@ pub fn read_axes(text: &[u8], from: usize, points: &mut [i64], start: &mut [i64]
             }
         }
     }
-    AxesRead::Stop { number: 600, at: place }
+    AxesRead::Stop {
+        number: 600,
+        at: place,
+    }
 }

@@ -17,7 +17,14 @@ use Rattle.sheet_numbers.specs.Says.{wholeOf, WholeInside, WholeSmall}
 use Rattle.sheet_numbers.proofs.Steps.{kept, near-kept}
 use Rattle.sheet_axis.specs.Says.{Reads, Stops}
 use Rattle.sheet_axis.proofs.Joins.{
-  far, wordAt, word-far, lead-reads, lead-stops, pair-fails, pair-reads, pair-stops,
+  far,
+  wordAt,
+  word-far,
+  lead-reads,
+  lead-stops,
+  pair-fails,
+  pair-reads,
+  pair-stops,
 }
 use Rattle.sheet_reader.specs.declared.HeadingRead.the-variants as headingRead
 use Rattle.sheet_reader.specs.Says.{ledNumber, NumberTo, NumberSays, HeadingTo, HeadingSays}
@@ -29,7 +36,7 @@ module _ (text w : List ℕ) (from : ℕ) (h : from ≤ length text) (mid : ℕ)
   unfolding NumberSays
   led-says (whole.Is z next) e i n =
       let s = spelled signed (Number within within-small within-shorter) (numberN within within-small within-shorter) Ends (drop mid text) _
-            (number-out within within-small within-shorter (drop mid text)) z (drop next text) (sym e) in
+      (number-out within within-small within-shorter (drop mid text)) z (drop next text) (sym e) in
       record {
         reads = lead-reads w _ text from mid u z next (record { says = λ n l. sym e; inside = i .1 });
         near = n;

@@ -11,11 +11,44 @@ use lib.Dec.{leb, ltb, eqb}
 use borrow.Author.Tests.{le-leb, lt-leb, leb-true}
 use Rattle.rules.specs.declared.SheetPlace.{SheetPlace}
 use Rattle.rules.specs.Sheets.{
-  Items, one, more, States, states, Axis, axis, Axes, only, next, Heading, heading, range, Sheet, sheet, spellHeading, within, below4,
+  Items,
+  one,
+  more,
+  States,
+  states,
+  Axis,
+  axis,
+  Axes,
+  only,
+  next,
+  Heading,
+  heading,
+  range,
+  Sheet,
+  sheet,
+  spellHeading,
+  within,
+  below4,
 }
 use Rattle.rules.specs.SheetReading as reading
 use Rattle.rules.specs.SheetFaults.{
-  Refusal, refusal, sizeOf, size, over, unlike, stateSizes, axisSizes, axesSizes, firstCount, sizes, Judged, readable, refused, sized, longest, judge,
+  Refusal,
+  refusal,
+  sizeOf,
+  size,
+  over,
+  unlike,
+  stateSizes,
+  axisSizes,
+  axesSizes,
+  firstCount,
+  sizes,
+  Judged,
+  readable,
+  refused,
+  sized,
+  longest,
+  judge,
 }
 use Rattle.sheet_record.specs.declared.SheetNumbers.{SheetNumbers}
 use Rattle.sheet_record.specs.Held.{ReadOf}
@@ -158,28 +191,32 @@ module _ (text : List ℕ) where
       read-whole o =
           let c = axes-to .clean o in
           let none = none-first (axesSizes (firstCount (axes-to .axes)) mid (axes-to .axes)) (numbered-axes _ mid (axes-to .axes)) (z .number) (z .at)
-                (axes-to .first) o in
-          (read, got-whole, sizes-are ∙ none, record {
-            order-is = near-kept order (h .order-near);
-            from-is = near-kept from (h .from-near);
-            to-is = near-kept to (h .to-near);
-            order-near = rw (near-kept order (h .order-near)) (h .order-near);
-            from-near = rw (near-kept from (h .from-near)) (h .from-near);
-            to-near = rw (near-kept to (h .to-near)) (h .to-near);
-            axes-is = axes-to .many;
-            some-axes = axes-to .some;
-            few-axes = axes-to .few;
-            some-points = c .some;
-            few-points = c .few;
-            points-are = c .alike;
-            start-is = c .start-is;
-            end-is = c .end-is;
-            few-start = c .few-start;
-            few-end = c .few-end;
-            points-held = c .points-held;
-            start-held = c .start-held;
-            end-held = c .end-held;
-          })
+          (axes-to .first) o in (
+            read,
+            got-whole,
+            sizes-are ∙ none,
+            record {
+              order-is = near-kept order (h .order-near);
+              from-is = near-kept from (h .from-near);
+              to-is = near-kept to (h .to-near);
+              order-near = rw (near-kept order (h .order-near)) (h .order-near);
+              from-near = rw (near-kept from (h .from-near)) (h .from-near);
+              to-near = rw (near-kept to (h .to-near)) (h .to-near);
+              axes-is = axes-to .many;
+              some-axes = axes-to .some;
+              few-axes = axes-to .few;
+              some-points = c .some;
+              few-points = c .few;
+              points-are = c .alike;
+              start-is = c .start-is;
+              end-is = c .end-is;
+              few-start = c .few-start;
+              few-end = c .few-end;
+              points-held = c .points-held;
+              start-held = c .start-held;
+              end-held = c .end-held;
+            },
+          )
 
 -- ---- the judge
 

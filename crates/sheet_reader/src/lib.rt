@@ -13,8 +13,16 @@ use sheet_numbers::Whole;
 use sheet_record::SheetNumbers;
 
 pub enum HeadingRead {
-    Is { order: i64, from: i64, to: i64, next: usize },
-    Stop { number: u32, at: usize },
+    Is {
+        order: i64,
+        from: i64,
+        to: i64,
+        next: usize,
+    },
+    Stop {
+        number: u32,
+        at: usize,
+    },
 }
 
 // A sheet that only the build's questions could still refuse, or a refusal.
@@ -66,13 +74,19 @@ fn heading(text: &[u8]) -> HeadingRead
 {
     let first = led_number(text, 0, b"(order ");
     match first {
-        Whole::Is { value: order, next: place } => {
+        Whole::Is {
+            value: order,
+            next: place,
+        } => {
             let second = led_number(text, place, b")\n(range ");
             match second {
                 Whole::Is { value: from, next } => {
                     let third = upper(text, next);
                     match third {
-                        Whole::Is { value: to, next: after } => HeadingRead::Is {
+                        Whole::Is {
+                            value: to,
+                            next: after,
+                        } => HeadingRead::Is {
                             order,
                             from,
                             to,
@@ -96,7 +110,12 @@ fn read_whole(text: &[u8], points: &mut [i64], start: &mut [i64], end: &mut [i64
     let first = heading(text);
     match first {
         HeadingRead::Stop { number, at } => WholeRead::Stopped { number, at },
-        HeadingRead::Is { order, from, to, next } => {
+        HeadingRead::Is {
+            order,
+            from,
+            to,
+            next,
+        } => {
             let rest = sheet_axes::read_axes(text, next, points, start, end);
             match rest {
                 AxesRead::Stop { number, at } => WholeRead::Stopped { number, at },
@@ -137,8 +156,14 @@ fn cut(read: WholeRead) -> SheetRead
     ensures { λ r. ⌜ r ≡ cutOf read ⌝ }
 {
     match read {
-        WholeRead::Is(_) => SheetRead::Refused { number: 600, at: 32768 },
-        WholeRead::Sized { number: _, at: _ } => SheetRead::Refused { number: 600, at: 32768 },
+        WholeRead::Is(_) => SheetRead::Refused {
+            number: 600,
+            at: 32768,
+        },
+        WholeRead::Sized { number: _, at: _ } => SheetRead::Refused {
+            number: 600,
+            at: 32768,
+        },
         WholeRead::Stopped { number, at } => SheetRead::Refused { number, at },
     }
 }

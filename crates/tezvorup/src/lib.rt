@@ -7,16 +7,21 @@ ghost use Rattle.rules.specs.Fused.{fused};
 ghost use Rattle.rules.specs.Build.{inputOf, buildAnswer, bufferAfter};
 ghost use Rattle.rules.specs.Query.{buffers, Queried, queryOf};
 ghost use Rattle.rules.specs.Master.{setOf, checkMaster};
-ghost use Rattle.tezvorup_records.specs.Meaning.{configOf, pathOf, answerOf, checkOf};
+ghost use Rattle.rules.specs.SheetAnswers.{sheetPlace, sheetAnswer, sheetBuffer};
+ghost use Rattle.tezvorup_records.specs.Meaning.{configOf, pathOf, answerOf, checkOf, placeOf, sheetAnswerOf};
 use rules::PathParam;
 use tezvorup_records::RawAnswer;
 use tezvorup_records::RawCheck;
 use tezvorup_records::RawConfig;
 use tezvorup_records::RawPath;
+use tezvorup_records::RawPlace;
+use tezvorup_records::RawSheet;
 use tezvorup_records::answer_of;
 use tezvorup_records::check_of;
 use tezvorup_records::config_of;
 use tezvorup_records::path_of;
+use tezvorup_records::place_of;
+use tezvorup_records::sheet_of;
 
 // A1, R29: a * b + c with one rounding (document 01, module 1).
 #[no_mangle]
@@ -89,4 +94,22 @@ pub extern "C" fn spline_check_master(
         r ≡ checkOf (checkMaster set)) ⌝ }
 {
     check_of(master::check_master(order, waypoints, start, end, table))
+}
+
+// A1, J12, J13: a job sheet is read (document 02, Wish 1): its number and place, the build's questions included. Nothing is
+// written.
+#[no_mangle]
+pub extern "C" fn spline_read_sheet(text: &[u8]) -> RawPlace
+    ensures { λ r. ⌜ r ≡ placeOf (sheetPlace (now (text .entry))) ⌝ }
+{
+    place_of(sheet::read_place(text))
+}
+
+// A1, J9, J13, J27: the build from a job sheet, into the first cells of a buffer. They are written where the number answered is 0.
+#[no_mangle]
+pub extern "C" fn spline_build_sheet(text: &[u8], coefficients: &mut [f64]) -> RawSheet
+    ensures { λ r. ⌜ (r ≡ sheetAnswerOf (sheetAnswer (now (text .entry)) (length (now (coefficients .entry)))))
+        × (now (coefficients .exit) ≡ sheetBuffer (now (text .entry)) (now (coefficients .entry))) ⌝ }
+{
+    sheet_of(sheet::build_sheet(text, coefficients))
 }

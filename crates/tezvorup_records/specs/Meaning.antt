@@ -13,15 +13,20 @@ use Rattle.rules.specs.declared.BoundaryState.the-variants.{None, Given}
 use Rattle.rules.specs.declared.SplineConfig.{SplineConfig}
 use Rattle.rules.specs.declared.PathRecord.{PathRecord}
 use Rattle.rules.specs.declared.BuildAnswer.{BuildAnswer}
+use Rattle.rules.specs.declared.SheetPlace.{SheetPlace}
+use Rattle.rules.specs.declared.SheetAnswer.{SheetAnswer}
 use Rattle.rules.specs.Floats.{+0}
 use Rattle.rules.specs.Build.{BuildInput, validAxes, validState, buildNumber, buildAnswer}
 use Rattle.rules.specs.Query.{QueryInput, Lengths, queryNumber}
 use Rattle.rules.specs.Master.{MasterSet, MasterSays, checkMaster}
+use Rattle.rules.specs.SheetAnswers.{sheetAnswer, sheetPlace}
 use Rattle.tezvorup_records.specs.declared.RawState.{RawState}
 use Rattle.tezvorup_records.specs.declared.RawConfig.{RawConfig}
 use Rattle.tezvorup_records.specs.declared.RawPath.{RawPath}
 use Rattle.tezvorup_records.specs.declared.RawAnswer.{RawAnswer}
 use Rattle.tezvorup_records.specs.declared.RawCheck.{RawCheck}
+use Rattle.tezvorup_records.specs.declared.RawPlace.{RawPlace}
+use Rattle.tezvorup_records.specs.declared.RawSheet.{RawSheet}
 
 -- A state by its kind: 0 is none, 1 is given, 2 is given per unit of s. Any other kind is reserved, and is a state of the largest
 -- usize as rows: question 6 says no to it, as no axes that question 4 lets pass are so many.
@@ -107,7 +112,16 @@ GoodIsYes =
     → ((checkOf (checkMaster s) .good ≡ 1) ↔ T (checkMaster s .good))
     × (checkOf (checkMaster s) .good ≡ 1 → checkOf (checkMaster s) .number ≡ 0)
 
--- The numbers that `spline_build`, `spline_query` and `spline_check_master` can answer; include/tezvorup.h has a name for each.
+-- What reading a job sheet answers: number and place.
+abbrev pub placeOf : SheetPlace → RawPlace
+placeOf p = record { number = p .number; at = p .at }
+
+-- What building the curve of one answers: the same, and the record beside it.
+abbrev pub sheetAnswerOf : SheetAnswer → RawSheet
+sheetAnswerOf a = record { number = a .number; at = a .at; path = recordOf (a .path) }
+
+-- The numbers that `spline_build`, `spline_query` and `spline_check_master` can answer, and those that both exports for job sheets can;
+-- include/tezvorup.h has a name for each.
 abbrev pub buildNumbers : List ℕ
 buildNumbers = 0 ∷ 2 ∷ 3 ∷ 4 ∷ 300 ∷ 301 ∷ 302 ∷ 303 ∷ 304 ∷ 307 ∷ []
 
@@ -116,6 +130,10 @@ queryNumbers = 0 ∷ 2 ∷ 300 ∷ 301 ∷ 302 ∷ 303 ∷ 304 ∷ 305 ∷ 308 �
 
 abbrev pub checkNumbers : List ℕ
 checkNumbers = 0 ∷ 2 ∷ 4 ∷ 302 ∷ 303 ∷ 304 ∷ []
+
+-- J1: a sheet that is built from has 1 to 8 axes, so 300 is not among them
+abbrev pub sheetNumbers : List ℕ
+sheetNumbers = 0 ∷ 2 ∷ 3 ∷ 4 ∷ 301 ∷ 302 ∷ 303 ∷ 304 ∷ 307 ∷ 600 ∷ 601 ∷ []
 
 -- a number is on a list
 unfoldable pub oneOf : List ℕ → ℕ → Bool
@@ -128,3 +146,5 @@ NumbersAreListed =
     ((b : BuildInput) (cells : ℕ) → T (oneOf buildNumbers (buildNumber b cells)))
     × ((i : QueryInput) (n : Lengths) → T (oneOf queryNumbers (queryNumber i n)))
     × ((s : MasterSet) → T (oneOf checkNumbers (checkOf (checkMaster s) .number)))
+    × ((t : List ℕ) (cells : ℕ) → T (oneOf sheetNumbers (sheetAnswer t cells .number)))
+    × ((t : List ℕ) → T (oneOf sheetNumbers (sheetPlace t .number)))

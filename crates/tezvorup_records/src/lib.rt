@@ -2,13 +2,16 @@
 // is to be believed of them, with the numbers that each export can answer, stands in specs/.
 ghost use mathlib.Core.Path.{_≡_};
 ghost use Rattle.rules.specs.Master.{masterSays};
-ghost use Rattle.tezvorup_records.specs.Meaning.{stateOf, modeOf, modeNumber, configOf, pathOf, answerOf, checkOf};
+ghost use Rattle.tezvorup_records.specs.Meaning.{stateOf, modeOf, modeNumber, configOf, pathOf, recordOf, answerOf, checkOf};
+ghost use Rattle.tezvorup_records.specs.Meaning.{placeOf, sheetAnswerOf};
 use rules::BoundaryState;
 use rules::BuildAnswer;
 use rules::MasterAnswer;
 use rules::OutOfRangeMode;
 use rules::PathParam;
 use rules::PathRecord;
+use rules::SheetAnswer;
+use rules::SheetPlace;
 use rules::SplineConfig;
 
 // `spline_state`: a boundary state by its kind; its numbers are a list beside it.
@@ -54,6 +57,21 @@ pub struct RawAnswer {
 pub struct RawCheck {
     pub number: u32,
     pub good: u8,
+}
+
+// `spline_place`: what reading a job sheet answers.
+#[repr(C)]
+pub struct RawPlace {
+    pub number: u32,
+    pub at: usize,
+}
+
+// `spline_sheet`: what building the curve of a job sheet answers.
+#[repr(C)]
+pub struct RawSheet {
+    pub number: u32,
+    pub at: usize,
+    pub path: RawPath,
 }
 
 // B6, B12: a boundary state by its kind.
@@ -132,23 +150,30 @@ pub fn path_of(path: RawPath) -> PathRecord
     }
 }
 
+// B13, B15: the record of a path that was built, or of a refusal.
+pub fn record_of(built: PathRecord) -> RawPath
+    ensures { λ r. ⌜ r ≡ recordOf built ⌝ }
+{
+    let mode = built.mode;
+    RawPath {
+        order: built.order,
+        segments: built.segments,
+        axes: built.axes,
+        s_min: built.s_min.0,
+        s_max: built.s_max.0,
+        inv_ds: built.inv_ds,
+        mode: mode_number(mode),
+    }
+}
+
 // B13, B15: a build's answer.
 pub fn answer_of(answer: BuildAnswer) -> RawAnswer
     ensures { λ r. ⌜ r ≡ answerOf answer ⌝ }
 {
     let path = answer.path;
-    let mode = path.mode;
     RawAnswer {
         number: answer.number,
-        path: RawPath {
-            order: path.order,
-            segments: path.segments,
-            axes: path.axes,
-            s_min: path.s_min.0,
-            s_max: path.s_max.0,
-            inv_ds: path.inv_ds,
-            mode: mode_number(mode),
-        },
+        path: record_of(path),
     }
 }
 
@@ -160,5 +185,27 @@ pub fn check_of(answer: MasterAnswer) -> RawCheck
         MasterAnswer::Yes => RawCheck { number: 0, good: 1 },
         MasterAnswer::No => RawCheck { number: 0, good: 0 },
         MasterAnswer::Refused(number) => RawCheck { number, good: 0 },
+    }
+}
+
+// J12: a sheet's number and place.
+pub fn place_of(place: SheetPlace) -> RawPlace
+    ensures { λ r. ⌜ r ≡ placeOf place ⌝ }
+{
+    RawPlace {
+        number: place.number,
+        at: place.at,
+    }
+}
+
+// J12, J13: the same, with the record of the path that was built.
+pub fn sheet_of(sheet: SheetAnswer) -> RawSheet
+    ensures { λ r. ⌜ r ≡ sheetAnswerOf sheet ⌝ }
+{
+    let path = sheet.path;
+    RawSheet {
+        number: sheet.number,
+        at: sheet.at,
+        path: record_of(path),
     }
 }

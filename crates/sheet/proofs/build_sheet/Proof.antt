@@ -33,12 +33,12 @@ build-sheet-spec =
     (λ c κs. search needs)
     (λ c. search needs)
     (λ c.
-      let b = c .before .before .before in
-      let d = b .before .before .before .before .before .before in
-      let r = readable d in
-      let a = start (sheet d) .args in
-      built (a .text .now) (a .coeffs .now) (r .«sheet») _ _ (r .is) (b .build-read .ensures (r .«sheet») (r .read)))
+    let b = c .before .before .before in
+    let d = b .before .before .before .before .before .before in
+    let r = readable d in
+    let a = start (sheet d) .args in
+    built (a .text .now) (a .coeffs .now) (r .«sheet») _ _ (r .is) (b .build-read .ensures (r .«sheet») (r .read)))
     (λ c.
-      let r = c .before .before .before .before .before .before .before in
-      let a = start r .args in
-      not-built (a .text .now) (a .coeffs .now) _ _ _ (it-is-refused _ _ _ _ _ (r .read-sheet .ensures) _ _ (c .before .before .read2 .given .1)) (c .no-path .ensures)))
+    let r = c .before .before .before .before .before .before .before in
+    let a = start r .args in
+    not-built (a .text .now) (a .coeffs .now) _ _ _ (it-is-refused _ _ _ _ _ (r .read-sheet .ensures) _ _ (c .before .before .read2 .given .1)) (c .no-path .ensures)))

@@ -31,9 +31,9 @@ read-place-spec =
     (λ c κs. let r = readable (c .before .before .before .before) in record { «sheet» = r .«sheet»; read = r .read })
     (λ c. search needs)
     (λ c.
-      let d = c .before .before .before .before .before in
-      let r = readable d in
-      place-read (start (sheet d) .args .text .now) (r .«sheet») _ (r .is) (c .number-of .ensures (r .«sheet») (r .read)))
+    let d = c .before .before .before .before .before in
+    let r = readable d in
+    place-read (start (sheet d) .args .text .now) (r .«sheet») _ (r .is) (c .number-of .ensures (r .«sheet») (r .read)))
     (λ c.
-      let r = c .before .before .before .before .before .before in
-      place-refused (start r .args .text .now) _ _ (it-is-refused _ _ _ _ _ (r .read-sheet .ensures) _ _ (c .before .read2 .given .1))))
+    let r = c .before .before .before .before .before .before in
+    place-refused (start r .args .text .now) _ _ (it-is-refused _ _ _ _ _ (r .read-sheet .ensures) _ _ (c .before .read2 .given .1))))

@@ -51,8 +51,8 @@ write-answer-spec =
     (λ c. omega (arith, few (c .before .before .before) .1))
     (λ c. let e = c .before .before .before .before in sym (length-take-le _ (start e .args .coeffs .now) (fits e .inside)))
     (λ c κs.
-      let e = c .before .before .before .before .before in
-      let f = fits e in
-      (f .few-orders, f .few-segments, f .few-axes, omega (arith, length-take-le _ (start e .args .coeffs .now) (f .inside)), start e .pre .0))
+    let e = c .before .before .before .before .before in
+    let f = fits e in
+    (f .few-orders, f .few-segments, f .few-axes, omega (arith, length-take-le _ (start e .args .coeffs .now) (f .inside)), start e .pre .0))
     (λ c. search needs)
     returns-2)

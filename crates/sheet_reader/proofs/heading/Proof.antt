@@ -41,24 +41,24 @@ heading-spec =
     (λ c. search needs)
     (λ c. search needs)
     (λ c.
-      let u = c .before .before .before in
-      let s = u .before .before in
-      let text = start (first s) .args .text .now in
-      all-read text _ _ (order (first s)) _ _ (from s) _ _
-      (number-to (readUpper within below4) (bytes " ") (bytes ")\n") text _ _ (u .upper .ensures) _ _ (c .before .third .given .1)))
+    let u = c .before .before .before in
+    let s = u .before .before in
+    let text = start (first s) .args .text .now in
+    all-read text _ _ (order (first s)) _ _ (from s) _ _
+    (number-to (readUpper within below4) (bytes " ") (bytes ")\n") text _ _ (u .upper .ensures) _ _ (c .before .third .given .1)))
     (λ c.
-      let u = c .before .before .before in
-      let s = u .before .before in
-      let text = start (first s) .args .text .now in
-      to-fails text _ _ (order (first s)) _ _ (from s) _ _
-      (number-fault (readUpper within below4) (bytes " ") (bytes ")\n") text _ _ (u .upper .ensures) _ _ (c .before .third2 .given .1)))
+    let u = c .before .before .before in
+    let s = u .before .before in
+    let text = start (first s) .args .text .now in
+    to-fails text _ _ (order (first s)) _ _ (from s) _ _
+    (number-fault (readUpper within below4) (bytes " ") (bytes ")\n") text _ _ (u .upper .ensures) _ _ (c .before .third2 .given .1)))
     (λ c.
-      let l = c .before .before .before in
-      let f = l .before .before .before in
-      let text = start f .args .text .now in
-      from-fails text _ _ (order f) _ _
-      (number-fault _ (bytes ")\n(range ") [] text _ _ (l .led-number2 .ensures) _ _ (c .before .second2 .given .1)))
+    let l = c .before .before .before in
+    let f = l .before .before .before in
+    let text = start f .args .text .now in
+    from-fails text _ _ (order f) _ _
+    (number-fault _ (bytes ")\n(range ") [] text _ _ (l .led-number2 .ensures) _ _ (c .before .second2 .given .1)))
     (λ c.
-      let l = c .before .before .before in
-      let text = l .before .before .before .args .text .now in
-      order-fails text _ _ (number-fault _ (bytes "(order ") [] text 0 _ (l .led-number .ensures) _ _ (c .before .first2 .given .1))))
+    let l = c .before .before .before in
+    let text = l .before .before .before .args .text .now in
+    order-fails text _ _ (number-fault _ (bytes "(order ") [] text 0 _ (l .led-number .ensures) _ _ (c .before .first2 .given .1))))

@@ -17,10 +17,10 @@ read-sheet-spec =
     (λ c. search needs)
     (λ c. search needs)
     (λ c.
-      let w = c .before .before .before .before in
-      let t = w .before .before .before .before in
-      let text = t .before .before .args .text .now in
-      rw (c .answered .ensures) (short text (t .if1 .taken) _ _ _ _ (w .read-whole .ensures)))
+    let w = c .before .before .before .before in
+    let t = w .before .before .before .before in
+    let text = t .before .before .args .text .now in
+    rw (c .answered .ensures) (short text (omega (arith, t .if1 .taken)) _ _ _ _ (w .read-whole .ensures)))
     (λ c. omega (arith, length-take 32768 (c .before .before .before .args .text .now), c .before .if1 .left))
     (λ c κs. search needs)
     (λ c κs. search needs)
@@ -28,7 +28,7 @@ read-sheet-spec =
     (λ c. search needs)
     (λ c. search needs)
     (λ c.
-      let w = c .before .before .before .before in
-      let e = w .before .before .before .before .before in
-      let text = e .before .before .args .text .now in
-      rw (c .cut .ensures) (long text (e .if1 .left) _ _ _ _ (w .read-whole2 .ensures))))
+    let w = c .before .before .before .before in
+    let e = w .before .before .before .before .before in
+    let text = e .before .before .args .text .now in
+    rw (c .cut .ensures) (long text (omega (arith, e .if1 .left)) _ _ _ _ (w .read-whole2 .ensures))))

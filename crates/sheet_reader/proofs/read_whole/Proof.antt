@@ -30,23 +30,23 @@ read-whole-spec =
     (λ c. search needs)
     (λ c. search needs)
     (λ c.
-      let x = c .before .before .before .before .before .before .before .before in
-      let f = headed x in
-      sized-whole (start f .args .text .now) _ _ _ _ (first f) _ _ _ _ (x .read-axes .ensures) _ _ (c .before .before .before .rest2 .given .1) (c .if1 .taken))
+    let x = c .before .before .before .before .before .before .before .before in
+    let f = headed x in
+    sized-whole (start f .args .text .now) _ _ _ _ (first f) _ _ _ _ (x .read-axes .ensures) _ _ (c .before .before .before .rest2 .given .1) (c .if1 .taken))
     (λ c.
-      let h = c .before .before .before in
-      heading-stops (h .before .before .args .text .now) _ (h .heading .ensures) _ _ (c .before .first .given .1) _ _ _)
-    (λ c. search needs)
-    (λ c. search needs)
-    (λ c. search needs)
-    (λ c.
-      let x = c .before .before .before .before .before .before in
-      let f = headed x in
-      axes-stop (start f .args .text .now) _ _ _ _ (first f) _ _ _ _ (x .read-axes .ensures) _ _ (c .before .rest .given .1))
+    let h = c .before .before .before in
+    heading-stops (h .before .before .args .text .now) _ (h .heading .ensures) _ _ (c .before .first .given .1) _ _ _)
     (λ c. search needs)
     (λ c. search needs)
     (λ c. search needs)
     (λ c.
-      let x = c .before .before .before .before .before .before .before .before in
-      let f = headed x in
-      read-whole (start f .args .text .now) _ _ _ _ (first f) _ _ _ _ (x .read-axes .ensures) _ _ (c .before .before .before .rest2 .given .1) (c .if1 .left)))
+    let x = c .before .before .before .before .before .before in
+    let f = headed x in
+    axes-stop (start f .args .text .now) _ _ _ _ (first f) _ _ _ _ (x .read-axes .ensures) _ _ (c .before .rest .given .1))
+    (λ c. search needs)
+    (λ c. search needs)
+    (λ c. search needs)
+    (λ c.
+    let x = c .before .before .before .before .before .before .before .before in
+    let f = headed x in
+    read-whole (start f .args .text .now) _ _ _ _ (first f) _ _ _ _ (x .read-axes .ensures) _ _ (c .before .before .before .rest2 .given .1) (c .if1 .left)))

@@ -31,18 +31,18 @@ upper-spec =
     (λ c. search needs)
     (λ c. search needs)
     (λ c.
-      let w = c .before .before .before in
-      let z = w .before .before .before in
-      let a = start (led z) .args in
-      upper-closed (a .text .now) (a .from) _ _ (read z) _
-      (word-reads (a .text .now) (bytes ")\n") _ (w .word .result) (w .word .ensures .0) (w .word .ensures .1) _ (c .before .closed .given .1)))
+    let w = c .before .before .before in
+    let z = w .before .before .before in
+    let a = start (led z) .args in
+    upper-closed (a .text .now) (a .from) _ _ (read z) _
+    (word-reads (a .text .now) (bytes ")\n") _ (w .word .result) (w .word .ensures .0) (w .word .ensures .1) _ (c .before .closed .given .1)))
     (λ c.
-      let w = c .before .before .before in
-      let z = w .before .before .before in
-      let a = start (led z) .args in
-      upper-open (a .text .now) (a .from) _ _ (read z) _ _
-      (word-stops (a .text .now) (bytes ")\n") _ (w .word .result) (w .word .ensures .0) (w .word .ensures .1) _ _ (c .before .closed2 .given .1)))
+    let w = c .before .before .before in
+    let z = w .before .before .before in
+    let a = start (led z) .args in
+    upper-open (a .text .now) (a .from) _ _ (read z) _ _
+    (word-stops (a .text .now) (bytes ")\n") _ (w .word .result) (w .word .ensures .0) (w .word .ensures .1) _ _ (c .before .closed2 .given .1)))
     (λ c.
-      let l = c .before .before .before in
-      let a = start l .args in
-      upper-fails (a .text .now) (a .from) _ _ (number-fault _ (bytes " ") [] (a .text .now) (a .from) _ (l .led-number .ensures) _ _ (c .before .z2 .given .1))))
+    let l = c .before .before .before in
+    let a = start l .args in
+    upper-fails (a .text .now) (a .from) _ _ (number-fault _ (bytes " ") [] (a .text .now) (a .from) _ (l .led-number .ensures) _ _ (c .before .z2 .given .1))))

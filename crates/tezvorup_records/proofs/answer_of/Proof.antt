@@ -1,10 +1,10 @@
--- `tezvorup_records::answer_of` meets its contract: the record is made field by field. Assumes nothing.
+-- `tezvorup_records::answer_of` meets its contract: the number, and the record beside it. Assumes nothing.
 use borrow.Author.Needs.{needs}
 use Rattle.tezvorup_records.proofs.answer_of.Statement.{statement}
 use Rattle.tezvorup_records.proofs.answer_of.Tie as tie
 
 returns : tie.Need-returns
-returns c = rw (c .mode-number .ensures)
+returns c = rw (c .record-of .ensures)
 
 pub answer-of-spec : {M : Type 1} → statement M
 answer-of-spec = tie.close (tie.spec (λ c κs. search needs) returns)
