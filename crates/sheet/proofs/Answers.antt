@@ -154,7 +154,8 @@ module _ (t : List ℕ) (before : List Float) (h : mostCells ≤ length before) 
   })
 
   -- the table is what stands in the first cells
-  table-first : (b : BuildInput) → buildNumber b (cellsOf b) ≡ 0 → take (cellsOf b) (bufferAfter b (take (cellsOf b) before) ++ drop (cellsOf b) before) ≡ table b
+  table-first : (b : BuildInput) → buildNumber b (cellsOf b) ≡ 0 → take (cellsOf b) (bufferAfter b (take (cellsOf b) before) ++ drop (cellsOf b) before)
+      ≡ table b
   table-first b e =
       let l : length (take (cellsOf b) before) ≡ cellsOf b = length-take-le (cellsOf b) before (omega (arith, few b e)) in
       ap (λ x. take (cellsOf b) (x ++ drop (cellsOf b) before)) (accepted-buffer b (take (cellsOf b) before) (ap (buildNumber b) l ∙ e))

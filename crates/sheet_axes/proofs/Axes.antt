@@ -341,7 +341,8 @@ module _ (text : List ℕ) (from k place : ℕ) (z : AxesSizes) (points start en
         })
 
     -- it was the last
-    pub all-axes : length text ≤ y .next → AxesSay text from (axesRead.Is (k + 1) sizes) (with-part k 258 points p) (with-part k 4 start q) (with-part k 4 end r)
+    pub all-axes : length text ≤ y .next → AxesSay text from (axesRead.Is (k + 1) sizes) (with-part k 258 points p) (with-part k 4 start q)
+        (with-part k 4 end r)
     unfolding AxesSay
     all-axes l = record {
       axes = s .pre (only ax);
@@ -377,7 +378,8 @@ module _ (text : List ℕ) (from k place : ℕ) (z : AxesSizes) (points start en
       unfolding AxisSays
       axis-to = subst (λ x. AxisSays text place (part-of k 258 points) (part-of k 4 start) (part-of k 4 end) x p q r) e says
 
-      pub turn-last : length text ≤ y .next → AxesSay text from (axesRead.Is (k + 1) sizes) (with-part k 258 points p) (with-part k 4 start q) (with-part k 4 end r)
+      pub turn-last : length text ≤ y .next → AxesSay text from (axesRead.Is (k + 1) sizes) (with-part k 258 points p) (with-part k 4 start q)
+          (with-part k 4 end r)
       turn-last l = rw i (all-axes text from k place z points start end s room lp ls le y p q r axis-to l)
 
       pub turn-more : y .next < length text

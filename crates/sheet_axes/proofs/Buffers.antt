@@ -63,7 +63,8 @@ module _ (stride : ℕ) (lists : List (List ℤ)) (buffer : List ℤ) (k : ℕ) 
   front = length-take-le (k * stride) buffer (omega (arith, inside))
 
   part-length : length part ≡ stride
-  part-length = length-take-le (k * stride + stride - k * stride) (drop (k * stride) buffer) (omega (arith, inside, length-drop (k * stride) buffer)) ∙ omega arith
+  part-length = length-take-le (k * stride + stride - k * stride) (drop (k * stride) buffer) (omega (arith, inside, length-drop (k * stride) buffer))
+      ∙ omega arith
 
   pub keeps-more : (p : List ℤ) → p ≡ put part 0 xs → Keeps stride (lists ++ (xs ∷ [])) (back p)
   unfolding AllNear
@@ -105,7 +106,12 @@ module _ (stride : ℕ) (lists : List (List ℤ)) (buffer : List ℤ) (k : ℕ) 
           let m = early a b in
           let o = one-more lists xs a m in
           let l' : i < length (getD lists a []) = subst (λ x. i < length x) o l in
-          let w : a * stride + i < k * stride = omega (arith, s .short a m, mul-le-mul (let q : a + 1 ≤ k = omega (arith, ltb-true a k b) in q) (let q : stride ≤ stride = omega arith in q)) in
+          let w : a * stride + i < k * stride = omega (
+            arith,
+            s .short a m,
+            mul-le-mul (let q : a + 1 ≤ k = omega (arith, ltb-true a k b) in q)
+                (let q : stride ≤ stride = omega arith in q),
+          ) in
           List·getD-append (take (k * stride) buffer) _ (pos 0) (a * stride + i) (omega (arith, front))
           ∙ getD-take (k * stride) buffer (a * stride + i) (pos 0) w
           ∙ s .held .holds a i m l' ∙ ap (λ x. getD x i (pos 0)) (sym o)

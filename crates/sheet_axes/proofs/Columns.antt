@@ -26,7 +26,8 @@ all-more f (x ∷ xs) y = rw (all-more f xs y) (go (f x))
     go true = refl
     go false = refl
 
-pub columns-more : (lists : List (List ℤ)) (ys : List ℤ) (k : ℕ) → length lists ≡ k → togetherOf k (columnsOf lists) (length ys) ≡ columnsOf (lists ++ (ys ∷ []))
+pub columns-more : (lists : List (List ℤ)) (ys : List ℤ) (k : ℕ) → length lists ≡ k → togetherOf k (columnsOf lists) (length ys)
+    ≡ columnsOf (lists ++ (ys ∷ []))
 unfolding columnsOf all
 columns-more [] ys k e = rw (eq-eqb k 0 (sym e))
 columns-more (xs ∷ rest) ys k e =

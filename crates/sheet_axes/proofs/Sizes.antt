@@ -201,7 +201,8 @@ module _ (text : List ℕ) (place : ℕ) (points start end : List ℤ) (lp : len
       third : overAt 3 (place + length (bytes "(axis (points ") + length (spellItems (t .pts)) + length (bytes " (start ")
           + length (spellItems (t .starts) ++ bytes " (end ")) (t .ends) ≡ z .«end_over»
       third =
-          let e : place + length (bytes "(axis (points ") + length (spellItems (t .pts)) + length (bytes " (start ") + length (spellItems (t .starts) ++ bytes " (end ")
+          let e : place + length (bytes "(axis (points ") + length (spellItems (t .pts)) + length (bytes " (start ") + length
+          (spellItems (t .starts) ++ bytes " (end ")
           ≡ z .close + 1 + length (bytes " (start ") + length (spellItems (t .starts)) + length (bytes " (end ")
           = omega (arith, close, length-append (spellItems (t .starts)) (bytes " (end ")) in
           ap (λ n. overAt 3 n (t .ends)) e ∙ sym (over-is _ _ 3 end (t .ends) (z .end) d le (t .end-in))

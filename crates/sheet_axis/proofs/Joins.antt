@@ -33,7 +33,8 @@ module _ (text w : List ℕ) (from : ℕ) (r : Passed) (says : passedOf text r �
 
 pub word-far : (text w : List ℕ) (from next : ℕ) → Reads (wordAt w) text from tt next → from ≤ length text → next ≡ from + length w
 word-far text w from next r h =
-    let s = spelled (λ u. w) always (wordN w) Any (drop from text) _ (word-out w (drop from text)) tt (drop next text) (r .says (suc (length text)) (omega arith)) in
+    let s = spelled (λ u. w) always (wordN w) Any (drop from text) _ (word-out w (drop from text)) tt (drop next text)
+    (r .says (suc (length text)) (omega arith)) in
     far text w from next (s .0) h (r .inside)
 
 module _ {A : Type 0} (w : List ℕ) (P : ℕ → List ℕ → reading.Read A) (text : List ℕ) (from : ℕ) where

@@ -80,7 +80,8 @@ pub record AxisTo (text : List ℕ) (from : ℕ) (points start end : List ℤ) (
   pub points-in : ListIn (from + length (bytes "(axis (points ")) points pts (z .points) (z .«points_over») pointsAfter
   pub close-is : z .close ≡ from + length (bytes "(axis (points ") + length (spellItems pts) - 1
   pub start-in : ListIn (z .close + 1 + length (bytes " (start ")) start starts (z .start) (z .«start_over») startAfter
-  pub end-in : ListIn (z .close + 1 + length (bytes " (start ") + length (spellItems starts) + length (bytes " (end ")) end ends (z .end) (z .«end_over») endAfter
+  pub end-in : ListIn (z .close + 1 + length (bytes " (start ") + length (spellItems starts) + length (bytes " (end ")) end ends (z .end) (z .«end_over»)
+      endAfter
 
 unfoldable pub AxisSays : List ℕ → ℕ → List ℤ → List ℤ → List ℤ → AxisRead → List ℤ → List ℤ → List ℤ → Type 0
 AxisSays text from points start end (axisRead.Is z) pointsAfter startAfter endAfter = AxisTo text from points start end z pointsAfter startAfter endAfter

@@ -42,7 +42,8 @@ times-put out at xs h n q mid end e f =
     (rw (e, f, length-put out at xs h) (end-times out at xs h n q), rw (e, f) (put-times out at xs h n q))
 
 module _ (text : List ℕ) (from d : ℕ) (out : List ℤ) (at : ℕ) where
-  pub number-is : Opened text from d opening.Number → (r : Filled) (after : List ℤ) → NumberFilled text from out at r after → ItemFilled text from d out at r after
+  pub number-is : Opened text from d opening.Number → (r : Filled) (after : List ℤ) → NumberFilled text from out at r after
+      → ItemFilled text from d out at r after
   unfolding Opened NumberFilled ItemFilled numbersOf reading.then
   number-is o (filled.To end next) after n = record {
     it = whole (n .0);

@@ -91,7 +91,8 @@ over-more room end last place over i items e h = go (ltb end room) refl (ltb (ro
         → cond (ltb end room) (overAt (room - end - 1) place (more i items)) over
         ≡ cond (ltb last room) (overAt (room - last - 1) (place + length (spellItem i ++ bytes " ")) items) (cond (ltb end room) place over)
     go false p y q = let w = ltb-false end room p in rw (p, le-ltb last room (omega (arith, e)))
-    go true p true q = let w = ltb-true end room p in let v = ltb-true (room - end - 1) (sizeOf i) q in rw (p, over-here (room - end - 1) place i items q, le-ltb last room (omega (arith, e, n)))
+    go true p true q = let w = ltb-true end room p in let v = ltb-true (room - end - 1) (sizeOf i) q in
+        rw (p, over-here (room - end - 1) place i items q, le-ltb last room (omega (arith, e, n)))
     go true p false q =
         let w = ltb-true end room p in
         let v = ltb-false (room - end - 1) (sizeOf i) q in

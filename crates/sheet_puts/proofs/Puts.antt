@@ -10,7 +10,25 @@ use native.Mathlib.Nat.{suc-mul, mul-le-mul}
 use lib.IntN.{ℤ, pos}
 use lib.Dec.{leb}
 use lib.ListN.{length, take, drop, getD, set, length-append, length-take, length-drop, take-append-drop, drop-of-length-le, List·getD-append}
-use lib.Seq.{drop-append-add, take-all, take-at, take-suc, take-add, drop-cons, set-at, set-split, getD-append-add, getD-at, take-append-add, drop-at, length-take-le, take-append-le, getD-take, drop-drop, append-snoc}
+use lib.Seq.{
+  drop-append-add,
+  take-all,
+  take-at,
+  take-suc,
+  take-add,
+  drop-cons,
+  set-at,
+  set-split,
+  getD-append-add,
+  getD-at,
+  take-append-add,
+  drop-at,
+  length-take-le,
+  take-append-le,
+  getD-take,
+  drop-drop,
+  append-snoc,
+}
 use borrow.Author.Tests.{leb-true, leb-false}
 use Rattle.rules.specs.SheetAnswers.{times}
 use Rattle.sheet_puts.specs.Put.{put, block}
@@ -44,7 +62,8 @@ put-is out at xs h = go (leb (at + length xs) (length out)) refl
     L = length-take-le at out h
 
     go : (b : Bool) → leb (at + length xs) (length out) ≡ b
-        → take (length out) (take at out ++ xs) ++ drop (at + length xs) out ≡ (take at out ++ take (min (length out) (at + length xs) - at) xs) ++ drop (min (length out) (at + length xs)) out
+        → take (length out) (take at out ++ xs) ++ drop (at + length xs) out
+        ≡ (take at out ++ take (min (length out) (at + length xs) - at) xs) ++ drop (min (length out) (at + length xs)) out
     go true e =
         let k = leb-true (at + length xs) (length out) e in
         let m : min (length out) (at + length xs) ≡ at + length xs = omega arith in
@@ -53,7 +72,12 @@ put-is out at xs h = go (leb (at + length xs) (length out)) refl
         let k = leb-false (at + length xs) (length out) e in
         let m : min (length out) (at + length xs) ≡ length out = omega arith in
         let c : length out ≡ length (take at out) + (length out - at) = omega (arith, L) in
-        rw (m, drop-of-length-le out (let q : length out ≤ at + length xs = omega arith in q), drop-of-length-le out (let q : length out ≤ length out = omega arith in q))
+        rw (
+          m,
+          drop-of-length-le out (let q : length out ≤ at + length xs = omega arith in q),
+          drop-of-length-le out
+              (let q : length out ≤ length out = omega arith in q),
+        )
         (ap (λ l. l ++ []) (ap (λ n. take n (take at out ++ xs)) c ∙ take-append-add (take at out) xs (length out - at)))
 
 -- ---- one number
@@ -111,7 +135,8 @@ module _ (out : List ℤ) (at end n : ℕ) (h : at ≤ end) (k : end ≤ length 
         let i : ℕ = j - end in
         let q : j - (end - at) ≡ length (take at out) + i = omega (arith, length-take-le at out (omega arith)) in
         let r : j - at ≡ length (block out at end) + i = omega (arith, length-block) in
-        List·getD-append (take at out ++ take (j - at) (times n (block out at end))) (drop j out) (pos 0) (j - (end - at)) (omega (arith, head-length, positive-size))
+        List·getD-append (take at out ++ take (j - at) (times n (block out at end))) (drop j out) (pos 0) (j - (end - at))
+        (omega (arith, head-length, positive-size))
         ∙ ap (λ x. getD (take at out ++ take (j - at) (times n (block out at end))) x (pos 0)) q
         ∙ getD-append-add (take at out) (take (j - at) (times n (block out at end))) i (pos 0)
         ∙ getD-take (j - at) (times n (block out at end)) i (pos 0) (omega (arith, positive-size))
@@ -122,18 +147,22 @@ module _ (out : List ℤ) (at end n : ℕ) (h : at ≤ end) (k : end ≤ length 
         positive-size = go (leb end at) refl
           where
             go : (x : Bool) → leb end at ≡ x → at < end
-            go true e = let w = leb-true end at e in let z : end - at ≡ 0 = omega arith in let y : n * (end - at) ≡ 0 = rw z (omega arith) in absurd (omega arith)
+            go true e = let w = leb-true end at e in let z : end - at ≡ 0 = omega arith in let y : n * (end - at) ≡ 0 = rw z (omega arith) in
+                absurd (omega arith)
             go false e = leb-false end at e
 
     pub filled-step : set (filled out at end n j) j (getD (filled out at end n j) (j - (end - at)) (pos 0)) ≡ filled out at end n (j + 1)
     unfolding filled
     filled-step =
         let e : j + 1 - at ≡ suc (j - at) = omega arith in
-        let f : take (j + 1 - at) (times n (block out at end)) ≡ take (j - at) (times n (block out at end)) ++ (getD (times n (block out at end)) (j - at) (pos 0) ∷ []) =
+        let f : take (j + 1 - at) (times n (block out at end))
+        ≡ take (j - at) (times n (block out at end)) ++ (getD (times n (block out at end)) (j - at) (pos 0) ∷ []) =
         ap (λ i. take i (times n (block out at end))) e ∙ take-suc (times n (block out at end)) (j - at) (pos 0) (omega (arith, all)) in
         ap (λ z. set (filled out at end n j) j z) here
-        ∙ ap (λ l. set ((take at out ++ take (j - at) (times n (block out at end))) ++ l) j (getD (times n (block out at end)) (j - at) (pos 0))) (drop-cons out j (pos 0) b)
-        ∙ set-at (take at out ++ take (j - at) (times n (block out at end))) (getD out j (pos 0)) (drop (suc j) out) (getD (times n (block out at end)) (j - at) (pos 0)) j head-length
+        ∙ ap (λ l. set ((take at out ++ take (j - at) (times n (block out at end))) ++ l) j (getD (times n (block out at end)) (j - at) (pos 0)))
+        (drop-cons out j (pos 0) b)
+        ∙ set-at (take at out ++ take (j - at) (times n (block out at end))) (getD out j (pos 0)) (drop (suc j) out)
+        (getD (times n (block out at end)) (j - at) (pos 0)) j head-length
         ∙ sym (rw (f, add-one) (simp append-assoc))
 
     pub filled-loop : (o : List ℤ) → o ≡ filled out at end n j → (z : ℤ) → z ≡ getD o (j - (end - at)) (pos 0) → set o j z ≡ filled out at end n (j + 1)
@@ -162,7 +191,8 @@ module _ (out : List ℤ) (at : ℕ) (xs : List ℤ) (h : at ≤ length out) whe
       ∙ omega (arith, front-length, length-drop (endOf out at xs) out)
 
   pub put-front : take (endOf out at xs) (put out at xs) ≡ take at out ++ take (endOf out at xs - at) xs
-  put-front = ap (take (endOf out at xs)) (put-is out at xs h) ∙ take-at (take at out ++ take (endOf out at xs - at) xs) (drop (endOf out at xs) out) (endOf out at xs) front-length
+  put-front = ap (take (endOf out at xs)) (put-is out at xs h)
+      ∙ take-at (take at out ++ take (endOf out at xs - at) xs) (drop (endOf out at xs) out) (endOf out at xs) front-length
 
   pub put-back : (q : ℕ) → endOf out at xs ≤ q → drop q (put out at xs) ≡ drop q out
   put-back q l =
@@ -181,7 +211,8 @@ module _ (out : List ℤ) (at : ℕ) (xs : List ℤ) (h : at ≤ length out) whe
       let q : min (length (put out at xs)) (endOf out at xs + length ys) ≡ endOf out at (xs ++ ys) = omega (arith, length-put, length-append xs ys) in
       put-is (put out at xs) (endOf out at xs) ys (omega arith)
       ∙ rw (q, put-front, put-back (endOf out at (xs ++ ys)) (omega (arith, length-append xs ys)))
-      (ap (λ l. l ++ drop (endOf out at (xs ++ ys)) out) (append-assoc (take at out) (take (endOf out at xs - at) xs) (take (endOf out at (xs ++ ys) - endOf out at xs) ys)
+      (ap (λ l. l ++ drop (endOf out at (xs ++ ys)) out) (append-assoc (take at out) (take (endOf out at xs - at) xs)
+      (take (endOf out at (xs ++ ys) - endOf out at xs) ys)
       ∙ ap (λ l. take at out ++ l) (go (leb (at + length xs) (length out)) refl)))
       ∙ sym (put-is out at (xs ++ ys) h)
     where
@@ -212,7 +243,8 @@ module _ (out : List ℤ) (at : ℕ) (xs : List ℤ) (h : at ≤ length out) (n 
 
   block-put : block (put out at xs) at (endOf out at xs) ≡ take (endOf out at xs - at) xs
   block-put =
-      ap (λ l. take (endOf out at xs - at) (drop at l)) (put-is out at xs h ∙ append-assoc (take at out) (take (endOf out at xs - at) xs) (drop (endOf out at xs) out))
+      ap (λ l. take (endOf out at xs - at) (drop at l)) (put-is out at xs h
+      ∙ append-assoc (take at out) (take (endOf out at xs - at) xs) (drop (endOf out at xs) out))
       ∙ ap (take (endOf out at xs - at)) (drop-at (take at out) (take (endOf out at xs - at) xs ++ drop (endOf out at xs) out) at (length-take-le at out h))
       ∙ take-at (take (endOf out at xs - at) xs) (drop (endOf out at xs) out) (endOf out at xs - at) (length-take-le (endOf out at xs - at) xs (omega arith))
 
@@ -239,7 +271,8 @@ module _ (out : List ℤ) (at : ℕ) (xs : List ℤ) (h : at ≤ length out) (n 
   unfolding part
   parts = go (leb (at + length xs) (length out)) refl
     where
-      go : (b : Bool) → leb (at + length xs) (length out) ≡ b → take (endOf out at (times n xs) - at) (times n (take (endOf out at xs - at) xs)) ≡ take (endOf out at (times n xs) - at) (times n xs)
+      go : (b : Bool) → leb (at + length xs) (length out) ≡ b → take (endOf out at (times n xs) - at) (times n (take (endOf out at xs - at) xs))
+          ≡ take (endOf out at (times n xs) - at) (times n xs)
       go true e =
           let k = leb-true (at + length xs) (length out) e in
           rw (take-all (endOf out at xs - at) xs (omega arith))
@@ -247,7 +280,8 @@ module _ (out : List ℤ) (at : ℕ) (xs : List ℤ) (h : at ≤ length out) (n 
           let k = leb-false (at + length xs) (length out) e in
           let i : endOf out at (times n xs) - at ≡ endOf out at xs - at = omega (arith, at-least (length xs), length-times n xs) in
           let m = length-take-le (endOf out at xs - at) xs (omega arith) in
-          rw i (take-times n (endOf out at xs - at) (take (endOf out at xs - at) xs) p (omega arith) ∙ take-all (endOf out at xs - at) (take (endOf out at xs - at) xs) (omega arith)
+          rw i (take-times n (endOf out at xs - at) (take (endOf out at xs - at) xs) p (omega arith)
+          ∙ take-all (endOf out at xs - at) (take (endOf out at xs - at) xs) (omega arith)
           ∙ sym (take-times n (endOf out at xs - at) xs p (omega arith)))
 
   pub put-times : put (put out at xs) at (times n (block (put out at xs) at (endOf out at xs))) ≡ put out at (times n xs)
@@ -255,7 +289,8 @@ module _ (out : List ℤ) (at : ℕ) (xs : List ℤ) (h : at ≤ length out) (n 
   put-times =
       let m = length-take-le (endOf out at xs - at) xs (omega arith) in
       let l : length (times n part) ≡ n * (endOf out at xs - at) = length-times n part ∙ ap (λ x. n * x) m in
-      let q : min (length (put out at xs)) (at + length (times n part)) ≡ endOf out at (times n xs) = ap₂ (λ x y. min x (at + y)) (length-put out at xs h) l ∙ end-times in
+      let q : min (length (put out at xs)) (at + length (times n part)) ≡ endOf out at (times n xs) =
+      ap₂ (λ x y. min x (at + y)) (length-put out at xs h) l ∙ end-times in
       let g : endOf out at xs ≤ endOf out at (times n xs) = omega (arith, at-least (length xs), length-times n xs) in
       ap (λ b. put (put out at xs) at (times n b)) block-put
       ∙ put-is (put out at xs) at (times n part) (omega (arith, length-put out at xs h))

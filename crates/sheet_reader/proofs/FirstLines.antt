@@ -104,7 +104,8 @@ module _ (text : List ℕ) where
           → HeadingSays text (headingRead.Is (kept order) (kept from) (kept to) after)
       unfolding HeadingSays reading.readHeading reading.readRange
       all-read to after t = rw (near-kept order (o .near), near-kept from (f .near), near-kept to (t .near)) (record {
-        reads = pair-reads heading _ _ text 0 order mid (o .reads) (range from to) after (pair-reads range _ _ text mid from next (f .reads) to after (t .reads));
+        reads = pair-reads heading _ _ text 0 order mid (o .reads) (range from to) after
+            (pair-reads range _ _ text mid from next (f .reads) to after (t .reads));
         next-is = omega (arith, o .ends, f .ends, t .ends, heading-length order from to);
         order-near = o .near;
         from-near = f .near;

@@ -41,4 +41,5 @@ build-sheet-spec =
     (λ c.
     let r = c .before .before .before .before .before .before .before in
     let a = start r .args in
-    not-built (a .text .now) (a .coeffs .now) _ _ _ (it-is-refused _ _ _ _ _ (r .read-sheet .ensures) _ _ (c .before .before .read2 .given .1)) (c .no-path .ensures)))
+    not-built (a .text .now) (a .coeffs .now) _ _ _ (it-is-refused _ _ _ _ _ (r .read-sheet .ensures) _ _ (c .before .before .read2 .given .1))
+    (c .no-path .ensures)))

@@ -36,4 +36,5 @@ print-sheet-spec =
     let b = w .before .before .before .before .before in
     let d = went-on b in
     let a = start d .args in
-    printed (a .text .now) (a .coeffs .now) (a .out .now) (omega (arith, d .before .if1 .left)) (omega (arith, d .if2 .left)) _ _ (b .build-sheet .ensures) _ _ (w .write-answer .ensures)))
+    printed (a .text .now) (a .coeffs .now) (a .out .now) (omega (arith, d .before .if1 .left)) (omega (arith, d .if2 .left)) _ _ (b .build-sheet .ensures)
+    _ _ (w .write-answer .ensures)))

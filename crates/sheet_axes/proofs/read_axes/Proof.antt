@@ -1,11 +1,11 @@
 -- `sheet_axes::read_axes` meets its contract: one axis after the other. Assumes nothing.
-use mathlib.Core.Path.{_≡_, refl, sym, ap, subst, _∙_}
-use Prim.Native.Nat.{ℕ, _+_, _-_, _*_, _<_, _≤_}
+use mathlib.Core.Path.{_≡_, sym, _∙_}
+use Prim.Native.Nat.{_-_, _<_}
 use native.Mathlib.Omega.{arith}
 use borrow.Author.Needs.{needs}
 use lib.ListN.{length}
 use Rattle.sheet_axes.specs.Says.{AxesSay}
-use Rattle.sheet_axes.proofs.Axes.{Sofar, at-start, ninth, part-long, still-long, turn-stop, turn-last, turn-more}
+use Rattle.sheet_axes.proofs.Axes.{Sofar, at-start, ninth, with-part, part-long, still-long, turn-stop, turn-last, turn-more}
 use Rattle.sheet_axes.proofs.read_axes.Statement.{statement}
 use Rattle.sheet_axes.proofs.read_axes.Tie as tie
 
@@ -16,13 +16,75 @@ Inv-loop text from points₀ start₀ end₀ place₀ sizes₀ k₀ points start
 abbrev μ-loop : tie.MeasureT-loop
 μ-loop text from points₀ start₀ end₀ place₀ sizes₀ k₀ points start end place sizes k = 8 - k
 
-last : tie.Need-returns-3 Inv-loop μ-loop
+-- the loop's test before an axis, and the entry
+abbrev entry : tie.At-loop Inv-loop μ-loop → tie.Start Inv-loop μ-loop
+entry l = l .before .before
+
+abbrev test : tie.After-axis Inv-loop μ-loop → tie.In-loop Inv-loop μ-loop
+test c = c .before .before .before .before
+
+abbrev loop : tie.After-axis Inv-loop μ-loop → tie.At-loop Inv-loop μ-loop
+loop c = test c .before
+
+-- the buffers are as long as they were
+kept : (c : tie.After-axis Inv-loop μ-loop) → let l = loop c .loop in
+    (length (with-part (l .k) 258 (l .points) (c .axis .last .1 .1 .0)) ≡ 2064)
+    × (length (with-part (l .k) 4 (l .start) (c .axis .last .1 .1 .1 .0)) ≡ 32)
+    × (length (with-part (l .k) 4 (l .end) (c .axis .last .1 .1 .1 .1 .0)) ≡ 32)
+kept c =
+    let l = loop c .loop in
+    let (lp, ls, le, sofar) = l .inv in
+    let long = still-long (l .k) (test c .loop-test .taken) in (
+      long 258 (l .points) lp (c .axis .last .1 .1 .0) (c .axis .kept .1 .1 .0),
+      long 4 (l .start) ls (c .axis .last .1 .1 .1 .0) (c .axis .kept .1 .1 .1 .0),
+      long 4 (l .end) le (c .axis .last .1 .1 .1 .1 .0) (c .axis .kept .1 .1 .1 .1 .0),
+    )
+
+-- the axis was a fault, the last, or another follows
+stopped : tie.Need-returns Inv-loop μ-loop
+stopped c =
+    let x = c .before .before .before .before .before .before in
+    let a = entry (loop x) .args in
+    let (lp, ls, le, sofar) = loop x .loop .inv in
+    turn-stop (a .text .now) (a .from) _ _ _ _ _ _ sofar (test x .loop-test .taken) lp ls le (x .axis .result) _ _ _ (x .axis .ensures) _ _
+    (c .before .read .given .1) _ _ _
+
+done : tie.Need-returns-2 Inv-loop μ-loop
+done c =
+    let r = c .before .before .before in
+    let x = r .before .before .before .before .before in
+    let a = entry (loop x) .args in
+    let (lp, ls, le, sofar) = loop x .loop .inv in
+    turn-last (a .text .now) (a .from) _ _ _ _ _ _ sofar (test x .loop-test .taken) lp ls le (x .axis .result) _ _ _ (x .axis .ensures) _
+    (r .read2 .given .1) _ (c .before .with-axis .ensures) (c .if1 .taken)
+
+again : tie.Need-loop-again Inv-loop μ-loop
+again c =
+    let r = c .before .before .before in
+    let x = r .before .before .before .before .before in
+    let a = entry (loop x) .args in
+    let (lp, ls, le, sofar) = loop x .loop .inv in
+    let (kp, ks, ke) = kept x in (
+      kp,
+      ks,
+      ke,
+      turn-more (a .text .now) (a .from) _ _ _ _ _ _ sofar (test x .loop-test .taken) lp ls le (x .axis .result) _ _ _ (x .axis .ensures) _
+          (r .read2 .given .1) _ (c .before .with-axis .ensures) (c .if1 .left),
+    )
+
+too-many : tie.Need-returns-3 Inv-loop μ-loop
 unfolding AxesSay
-last c =
+too-many c =
     let l = c .before in
-    let a = l .before .before .args in
-    ninth (a .text .now) (a .from) (l .loop .place) (l .loop .sizes) (l .loop .points) (l .loop .start) (l .loop .end) (l .loop .k) (c .loop-test .left)
-    (l .loop .inv .3)
+    let a = entry l .args in
+    ninth (a .text .now) (a .from) _ _ _ _ _ (l .loop .k) (c .loop-test .left) (l .loop .inv .3)
+
+-- behind an axis that stops, and behind one that is the last
+abbrev at-stop : tie.After-known-told Inv-loop μ-loop → tie.After-axis Inv-loop μ-loop
+at-stop c = c .before .before .before .before .before .before
+
+abbrev at-last : tie.Then1 Inv-loop μ-loop → tie.After-axis Inv-loop μ-loop
+at-last c = c .before .before .before .before .before .before .before .before
 
 pub read-axes-spec : {M : Type 1} → statement M
 read-axes-spec =
@@ -30,12 +92,11 @@ read-axes-spec =
     (tie.spec
     Inv-loop
     μ-loop
-    (λ c. let s = c .before in let a = s .args in (
-      s .pre .1,
-      s .pre .2,
-      s .pre .3,
-      at-start (a .text .now) (a .from) (a .points .now) (a .start .now) (a .end .now) (s .pre .0) (s .pre .1) (s .pre .2) (s .pre .3),
-    ))
+    (λ c.
+    let s = c .before in
+    let a = s .args in
+    let (h, lp, ls, le) = s .pre in
+    (lp, ls, le, at-start (a .text .now) (a .from) (a .points .now) (a .start .now) (a .end .now) h lp ls le))
     (λ c. search needs)
     (λ c. search needs)
     (λ c. search needs)
@@ -54,78 +115,26 @@ read-axes-spec =
     (λ c. search needs)
     (λ c. search needs)
     (λ c κs.
-    let l = c .before .before .before .before in
-    let s = l .before .before in
-    let a = s .args in
-    let (lp, ls, le, sofar) = l .loop .inv in
-    let long = part-long (l .loop .k) (c .before .before .before .loop-test .taken) in
-    (sofar .inside, omega (arith, long 258 (l .loop .points) lp), omega (arith, long 4 (l .loop .start) ls), omega (arith, long 4 (l .loop .end) le)))
+    let t = c .before .before .before in
+    let l = t .before .loop in
+    let (lp, ls, le, sofar) = l .inv in
+    let long = part-long (l .k) (t .loop-test .taken) in
+    (sofar .inside, omega (arith, long 258 (l .points) lp), omega (arith, long 4 (l .start) ls), omega (arith, long 4 (l .end) le)))
     (λ c. search needs)
-    (λ c.
-    let l = c .before .before .before .before .before .before .before .before .before .before .before in
-    let s = l .before .before in
-    let a = s .args in
-    let (lp, ls, le, sofar) = l .loop .inv in
-    still-long (l .loop .k) (c .before .before .before .before .before .before .before .before .before .before .loop-test .taken) 258 (l .loop .points) lp (c .before .before .before .before .before .before .axis .last .1 .1 .0) (c .before .before .before .before .before .before .axis .kept .1 .1 .0) ∙ sym (s .pre .1))
-    (λ c.
-    let l = c .before .before .before .before .before .before .before .before .before .before .before in
-    let s = l .before .before in
-    let a = s .args in
-    let (lp, ls, le, sofar) = l .loop .inv in
-    still-long (l .loop .k) (c .before .before .before .before .before .before .before .before .before .before .loop-test .taken) 4 (l .loop .start) ls (c .before .before .before .before .before .before .axis .last .1 .1 .1 .0) (c .before .before .before .before .before .before .axis .kept .1 .1 .1 .0) ∙ sym (s .pre .2))
-    (λ c.
-    let l = c .before .before .before .before .before .before .before .before .before .before .before in
-    let s = l .before .before in
-    let a = s .args in
-    let (lp, ls, le, sofar) = l .loop .inv in
-    still-long (l .loop .k) (c .before .before .before .before .before .before .before .before .before .before .loop-test .taken) 4 (l .loop .end) le (c .before .before .before .before .before .before .axis .last .1 .1 .1 .1 .0) (c .before .before .before .before .before .before .axis .kept .1 .1 .1 .1 .0) ∙ sym (s .pre .3))
-    (λ c.
-    let l = c .before .before .before .before .before .before .before .before .before .before .before in
-    let s = l .before .before in
-    let a = s .args in
-    let (lp, ls, le, sofar) = l .loop .inv in
-    turn-stop (a .text .now) (a .from) (l .loop .k) (l .loop .place) (l .loop .sizes) (l .loop .points) (l .loop .start) (l .loop .end) sofar (c .before .before .before .before .before .before .before .before .before .before .loop-test .taken) lp ls le (c .before .before .before .before .before .before .axis .result) _ _ _ (c .before .before .before .before .before .before .axis .ensures) _ _ (c .before .read .given .1) _ _ _)
+    (λ c. kept (at-stop c) .0 ∙ sym (entry (loop (at-stop c)) .pre .1))
+    (λ c. kept (at-stop c) .1 ∙ sym (entry (loop (at-stop c)) .pre .2))
+    (λ c. kept (at-stop c) .2 ∙ sym (entry (loop (at-stop c)) .pre .3))
+    stopped
     (λ c. search needs)
     (λ c κs. search needs)
     (λ c. search needs)
-    (λ c.
-    let l = c .before .before .before .before .before .before .before .before .before .before .before .before .before in
-    let s = l .before .before in
-    let a = s .args in
-    let (lp, ls, le, sofar) = l .loop .inv in
-    still-long (l .loop .k) (c .before .before .before .before .before .before .before .before .before .before .before .before .loop-test .taken) 258 (l .loop .points) lp (c .before .before .before .before .before .before .before .before .axis .last .1 .1 .0) (c .before .before .before .before .before .before .before .before .axis .kept .1 .1 .0) ∙ sym (s .pre .1))
-    (λ c.
-    let l = c .before .before .before .before .before .before .before .before .before .before .before .before .before in
-    let s = l .before .before in
-    let a = s .args in
-    let (lp, ls, le, sofar) = l .loop .inv in
-    still-long (l .loop .k) (c .before .before .before .before .before .before .before .before .before .before .before .before .loop-test .taken) 4 (l .loop .start) ls (c .before .before .before .before .before .before .before .before .axis .last .1 .1 .1 .0) (c .before .before .before .before .before .before .before .before .axis .kept .1 .1 .1 .0) ∙ sym (s .pre .2))
-    (λ c.
-    let l = c .before .before .before .before .before .before .before .before .before .before .before .before .before in
-    let s = l .before .before in
-    let a = s .args in
-    let (lp, ls, le, sofar) = l .loop .inv in
-    still-long (l .loop .k) (c .before .before .before .before .before .before .before .before .before .before .before .before .loop-test .taken) 4 (l .loop .end) le (c .before .before .before .before .before .before .before .before .axis .last .1 .1 .1 .1 .0) (c .before .before .before .before .before .before .before .before .axis .kept .1 .1 .1 .1 .0) ∙ sym (s .pre .3))
-    (λ c.
-    let l = c .before .before .before .before .before .before .before .before .before .before .before .before .before in
-    let s = l .before .before in
-    let a = s .args in
-    let (lp, ls, le, sofar) = l .loop .inv in
-    turn-last (a .text .now) (a .from) (l .loop .k) (l .loop .place) (l .loop .sizes) (l .loop .points) (l .loop .start) (l .loop .end) sofar (c .before .before .before .before .before .before .before .before .before .before .before .before .loop-test .taken) lp ls le (c .before .before .before .before .before .before .before .before .axis .result) _ _ _ (c .before .before .before .before .before .before .before .before .axis .ensures) _ (c .before .before .before .read2 .given .1) _ (c .before .with-axis .ensures)
-    (c .if1 .taken))
-    (λ c. let l = c .before .before .before .before .before .before .before .before .before .before .before .before .before in omega (arith, c .before .before .before .before .before .before .before .before .before .before .before .before .loop-test .taken))
-    (λ c.
-    let l = c .before .before .before .before .before .before .before .before .before .before .before .before .before in
-    let s = l .before .before in
-    let a = s .args in
-    let (lp, ls, le, sofar) = l .loop .inv in (
-      still-long (l .loop .k) (c .before .before .before .before .before .before .before .before .before .before .before .before .loop-test .taken) 258 (l .loop .points) lp (c .before .before .before .before .before .before .before .before .axis .last .1 .1 .0) (c .before .before .before .before .before .before .before .before .axis .kept .1 .1 .0),
-      still-long (l .loop .k) (c .before .before .before .before .before .before .before .before .before .before .before .before .loop-test .taken) 4 (l .loop .start) ls (c .before .before .before .before .before .before .before .before .axis .last .1 .1 .1 .0) (c .before .before .before .before .before .before .before .before .axis .kept .1 .1 .1 .0),
-      still-long (l .loop .k) (c .before .before .before .before .before .before .before .before .before .before .before .before .loop-test .taken) 4 (l .loop .end) le (c .before .before .before .before .before .before .before .before .axis .last .1 .1 .1 .1 .0) (c .before .before .before .before .before .before .before .before .axis .kept .1 .1 .1 .1 .0),
-      turn-more (a .text .now) (a .from) (l .loop .k) (l .loop .place) (l .loop .sizes) (l .loop .points) (l .loop .start) (l .loop .end) sofar (c .before .before .before .before .before .before .before .before .before .before .before .before .loop-test .taken) lp ls le (c .before .before .before .before .before .before .before .before .axis .result) _ _ _ (c .before .before .before .before .before .before .before .before .axis .ensures) _ (c .before .before .before .read2 .given .1) _ (c .before .with-axis .ensures)
-          (c .if1 .left),
-    ))
-    (λ c. let l = c .before in l .loop .inv .0 ∙ sym (l .before .before .pre .1))
-    (λ c. let l = c .before in l .loop .inv .1 ∙ sym (l .before .before .pre .2))
-    (λ c. let l = c .before in l .loop .inv .2 ∙ sym (l .before .before .pre .3))
-    last)
+    (λ c. kept (at-last c) .0 ∙ sym (entry (loop (at-last c)) .pre .1))
+    (λ c. kept (at-last c) .1 ∙ sym (entry (loop (at-last c)) .pre .2))
+    (λ c. kept (at-last c) .2 ∙ sym (entry (loop (at-last c)) .pre .3))
+    done
+    (λ c. omega (arith, test (c .before .before .before .before .before .before .before .before) .loop-test .taken))
+    again
+    (λ c. c .before .loop .inv .0 ∙ sym (entry (c .before) .pre .1))
+    (λ c. c .before .loop .inv .1 ∙ sym (entry (c .before) .pre .2))
+    (λ c. c .before .loop .inv .2 ∙ sym (entry (c .before) .pre .3))
+    too-many)

@@ -43,7 +43,8 @@ axis-spec =
     let s = c .before .before .before .before .before in
     let l = points s in
     let a = start (led l) .args in
-    axis-read (a .text .now) (a .from) (a .points .now) (a .start .now) (a .end .now) _ _ _ _ (listed l) _ _ _ (s .states .ensures) _ (c .before .both .given .1))
+    axis-read (a .text .now) (a .from) (a .points .now) (a .start .now) (a .end .now) _ _ _ _ (listed l) _ _ _ (s .states .ensures) _
+    (c .before .both .given .1))
     (λ c. search needs)
     (λ c. search needs)
     (λ c. search needs)

@@ -119,7 +119,11 @@ pub +item+list-spec : {M : Type 1} → statement M
     list.Post
     list-Inv-loop
     list-μ-loop
-    (λ c. let s = c .before in let a = s .args in (refl, at-start (a .text .now) (a .from) (a .depth) (a .out .now) (a .at) (s .pre .1 .1) (s .pre .1 .0) (a .from)))
+    (λ c. let s = c .before in let a = s .args in (
+      refl,
+      at-start (a .text .now) (a .from) (a .depth) (a .out .now) (a .at) (s .pre .1 .1) (s .pre .1 .0)
+          (a .from),
+    ))
     (λ c κs. search needs)
     (λ c κs.
     let l = c .before .before in

@@ -23,7 +23,11 @@ same-length : tie.Need-same-length
 same-length c = search needs
 
 returns : tie.Need-returns
-returns c = (omega arith, ap (λ x. set (c .before .args .out .now) (c .before .args .at) x) (toZ-ofZ (c .before .fits .z)) ∙ put-one (c .before .args .out .now) (c .before .args .at) (c .before .args .z) (c .if1 .taken))
+returns c = (
+  omega arith,
+  ap (λ x. set (c .before .args .out .now) (c .before .args .at) x) (toZ-ofZ (c .before .fits .z))
+      ∙ put-one (c .before .args .out .now) (c .before .args .at) (c .before .args .z) (c .if1 .taken),
+)
 
 returns-2 : tie.Need-returns-2
 returns-2 c = (omega arith, put-full (c .before .args .out .now) (c .before .args .at) (c .before .args .z) (c .if1 .left) (c .before .pre))

@@ -37,7 +37,12 @@ lesser-requires c κs = search needs
 
 loop-holds : tie.Need-loop-holds Inv-loop μ-loop
 loop-holds c = let s : c .before .args .end - c .before .args .at ≤ c .before .args .end - c .before .args .at = omega arith in
-    record { within = omega (arith, c .lesser .ensures, mul-le-mul (c .before .pre .2) s); is = filled-start (c .before .args .out .now) (c .before .args .at) (c .before .args .end) (c .before .args .n) (c .before .pre .0) (c .before .pre .1) (c .before .pre .2) }
+    record {
+      within = omega (arith, c .lesser .ensures, mul-le-mul (c .before .pre .2) s);
+      is =
+          filled-start (c .before .args .out .now) (c .before .args .at) (c .before .args .end) (c .before .args .n) (c .before .pre .0) (c .before .pre .1)
+          (c .before .pre .2);
+    }
 
 sub-out : tie.Need-sub-out Inv-loop μ-loop
 sub-out c = omega arith
@@ -66,14 +71,23 @@ loop-again c =
     let i = c .before .before .loop .inv in
     record {
       within = simp length-set (omega arith);
-      is = filled-loop (c .before .before .before .before .args .out .now) (c .before .before .before .before .args .at) (c .before .before .before .before .args .end) (c .before .before .before .before .args .n) (c .before .before .before .before .pre .0) (c .before .before .before .before .pre .1) (c .before .before .before .before .pre .2) (c .before .before .loop .j) (i .within .0) (omega arith) (omega arith) (c .before .before .loop .out) (i .is) _ (toZ-ofZ (record { sfits = c .out .given }));
+      is = filled-loop (c .before .before .before .before .args .out .now) (c .before .before .before .before .args .at)
+          (c .before .before .before .before .args .end) (c .before .before .before .before .args .n) (c .before .before .before .before .pre .0)
+          (c .before .before .before .before .pre .1) (c .before .before .before .before .pre .2) (c .before .before .loop .j) (i .within .0) (omega arith)
+          (omega arith) (c .before .before .loop .out) (i .is) _ (toZ-ofZ (record { sfits = c .out .given }));
     }
 
 same-length : tie.Need-same-length Inv-loop μ-loop
 same-length c = omega arith
 
 returns : tie.Need-returns Inv-loop μ-loop
-returns c = (c .before .before .lesser .ensures, c .before .loop .inv .is ∙ filled-end (c .before .before .before .args .out .now) (c .before .before .before .args .at) (c .before .before .before .args .end) (c .before .before .before .args .n) (c .before .before .before .pre .0) (c .before .before .before .pre .1) (c .before .before .before .pre .2) (c .before .loop .j) (omega arith))
+returns c = (
+  c .before .before .lesser .ensures,
+  c .before .loop .inv .is
+      ∙ filled-end (c .before .before .before .args .out .now) (c .before .before .before .args .at) (c .before .before .before .args .end)
+      (c .before .before .before .args .n) (c .before .before .before .pre .0) (c .before .before .before .pre .1) (c .before .before .before .pre .2)
+      (c .before .loop .j) (omega arith),
+)
 
 pub repeat-spec : {M : Type 1} → statement M
 repeat-spec =

@@ -18,7 +18,8 @@ start c = led c .before .before .before
 abbrev first : tie.After-second → tie.After-first
 first c = c .before .before .before .before .before
 
-abbrev order : (c : tie.After-first) → NumberTo (ledNumber (bytes "(order ")) (bytes "(order ") [] (start c .args .text .now) 0 (c .first .given .0 .0) (c .first .given .0 .1 .0)
+abbrev order : (c : tie.After-first) → NumberTo (ledNumber (bytes "(order ")) (bytes "(order ") [] (start c .args .text .now) 0 (c .first .given .0 .0)
+    (c .first .given .0 .1 .0)
 order c = number-to _ _ _ (start c .args .text .now) 0 _ (led c .led-number .ensures) _ _ (c .first .given .1)
 
 abbrev from : (c : tie.After-second) → NumberTo (ledNumber (bytes ")\n(range ")) (bytes ")\n(range ") [] (start (first c) .args .text .now)
