@@ -1,8 +1,10 @@
 /*
  * Calls every function of the library from C with generated input, for watched.c and valgrind to watch.
  *
- *   fuzz COUNT   COUNT calls of each function, of spline_mul_add two for one, and COUNT / 5 curves that must be served
+ *   fuzz COUNT   COUNT calls of each function, of spline_mul_add two for one, COUNT / 5 curves and COUNT / 5 sheets that
+ *                must be served, and first some sheets whose answers are known
  */
+#include <stdarg.h>
 #include <stdint.h>
 #include <stdio.h>
 #include <stdlib.h>
@@ -266,15 +268,341 @@ static void step(void) {
     spline_mul_add(pattern(), pattern(), pattern());
 }
 
+/* ---- sheets: their texts */
+
+#define HEAD "(order 3)\n(range 0 2)\n"
+/* Document 02's. */
+#define SHEET HEAD "(axis (points 0 4 8) (start 0) (end 0))\n"
+
+typedef struct {
+    size_t count;
+    uint8_t bytes[40000];
+} Text;
+
+static void put(Text *t, const char *format, ...) {
+    size_t room = sizeof t->bytes - t->count;
+    va_list values;
+    va_start(values, format);
+    int count = vsnprintf((char *)t->bytes + t->count, room, format, values);
+    va_end(values);
+    must(count >= 0 && (size_t)count < room);
+    t->count += (size_t)count;
+}
+
+/* A small whole number, and at times any within 2^40 and -2^40. */
+static double sheet_number(void) {
+    const int64_t greatest = (int64_t)1 << 40;
+    return one_in(16) ? (double)((int64_t)below((size_t)(2 * greatest + 1)) - greatest) : number(0);
+}
+
+/* Items that stand for so many numbers, with at most so many again inside one another. The numbers go to cells too. */
+static void put_items(Text *t, double *cells, size_t count, int depth) {
+    for (size_t i = 0; i < count;) {
+        size_t left = count - i, times = 1 + below(left < 64 ? left : 64);
+        put(t, i > 0 ? " " : "");
+        if (depth > 0 && one_in(4)) {
+            size_t inner = 1 + below(left / times), all = times * inner;
+            put(t, "(again %zu ", times);
+            put_items(t, cells + i, inner, depth - 1);
+            put(t, ")");
+            for (size_t k = inner; k < all; k++)
+                cells[i + k] = cells[i + k - inner];
+            i += all;
+        } else {
+            cells[i] = sheet_number();
+            put(t, "%.0f", cells[i++]);
+        }
+    }
+}
+
+/* A list of one axis. Its numbers go to where spline_build has them, those of the other axes between them. */
+static void put_list(Text *t, const char *head, double *numbers, size_t count, size_t axis, size_t axes) {
+    double cells[257];
+    put(t, "(%s ", head);
+    put_items(t, cells, count, (int)below(5));
+    put(t, ")");
+    for (size_t i = 0; i < count; i++)
+        numbers[i * axes + axis] = cells[i];
+}
+
+/* A sheet that can be built, and what spline_build is to be given for the same curve. */
+typedef struct {
+    spline_config config;
+    size_t points, axes, m;
+    double *waypoints, *start, *end;
+    Text text;
+} Sheet;
+
+/* There is one at a time: it is large for a stack. */
+static Sheet *some_sheet(void) {
+    static Sheet s;
+    size_t order = some_order();
+    s.points = some_points();
+    s.axes = 1 + below(8);
+    s.m = order / 2;
+    spline_state given = {.kind = SPLINE_STATE_GIVEN, .rows = s.axes, .columns = s.m};
+    s.config = (spline_config){.order = order, .s_min = number(0), .mode = SPLINE_MODE_ERROR, .start = given, .end = given};
+    s.config.s_max = s.config.s_min + 1.0 + (double)below(9);
+    s.waypoints = list(s.axes * s.points);
+    s.start = list(s.axes * s.m);
+    s.end = list(s.axes * s.m);
+    s.text.count = 0;
+    put(&s.text, "(order %zu)\n(range %.0f %.0f)\n", order, s.config.s_min, s.config.s_max);
+    for (size_t axis = 0; axis < s.axes; axis++) {
+        put(&s.text, "(axis ");
+        put_list(&s.text, "points", s.waypoints, s.points, axis, s.axes);
+        put(&s.text, " ");
+        put_list(&s.text, "start", s.start, s.m, axis, s.axes);
+        put(&s.text, " ");
+        put_list(&s.text, "end", s.end, s.m, axis, s.axes);
+        put(&s.text, ")\n");
+    }
+    return &s;
+}
+
+static void free_sheet(Sheet *s) {
+    free(s->waypoints);
+    free(s->start);
+    free(s->end);
+}
+
+/* A byte that stands in sheets, and at times any other. */
+static uint8_t sheet_byte(void) {
+    static const char alphabet[] = "(order )\n(range -)(axis (points 0123456789) (start (again ) (end ))";
+    return one_in(16) ? byte() : (uint8_t)alphabet[below(sizeof alphabet - 1)];
+}
+
+/* The bytes from one place on go to another one: further on, with random bytes in the gap, or back over others. */
+static void move(Text *t, size_t from, size_t to) {
+    size_t count = t->count - from;
+    must(to + count <= sizeof t->bytes);
+    memmove(t->bytes + to, t->bytes + from, count);
+    t->count = to + count;
+    for (size_t i = from; i < to; i++)
+        t->bytes[i] = sheet_byte();
+}
+
+static void damage(Text *t) {
+    size_t at = below(t->count + 1), few = below(12), left = t->count - at;
+    switch (below(5)) {
+    case 0:
+        t->count = at;
+        break;
+    case 1:
+        move(t, at, at + few);
+        break;
+    case 2:
+        move(t, at + (few < left ? few : left), at);
+        break;
+    case 3:
+        for (size_t i = at; i < t->count; i++)
+            t->bytes[i] = sheet_byte();
+        break;
+    default:
+        if (left > 0)
+            t->bytes[at] = sheet_byte();
+    }
+}
+
+/* The greatest table and, with so many bytes to spare, a longer text: again stands round numbers, and then one has more
+   digits. */
+static void put_greatest(Text *t, size_t spare) {
+    static const char *const open[] = {"", "(again 1 ", "(again 1 (again 1 ", "(again 1 (again 1 (again 1 ",
+                                       "(again 1 (again 1 (again 1 (again 1 "};
+    static const char *const shut[] = {"", ")", "))", ")))", "))))"};
+    t->count = 0;
+    put(t, "(order 7)\n(range -2 2)\n");
+    for (int axis = 0; axis < 8; axis++) {
+        put(t, "(axis (points");
+        for (int point = 0; point < 257; point++) {
+            size_t around = spare / 10 < 4 ? spare / 10 : 4;
+            spare -= 10 * around;
+            size_t zeros = spare < 10 ? spare : 0;
+            spare -= zeros;
+            put(t, " %s1%.*s%s", open[around], (int)zeros, "000000000", shut[around]);
+        }
+        put(t, ") (start (again 3 0)) (end 0 0 0))\n");
+    }
+}
+
+/* ---- sheets: the calls */
+
+/* All in mode Error, or all zero. */
+static int is_path(spline_path path, size_t order, size_t segments, size_t axes, double s_min, double s_max, double inv_ds) {
+    return path.order == order && path.segments == segments && path.axes == axes && path.s_min == s_min && path.s_max == s_max
+           && path.inv_ds == inv_ds && path.mode == SPLINE_MODE_ERROR;
+}
+
+static int same_cells(const double *x, const double *y, size_t count) {
+    return count == 0 || memcmp(x, y, count * sizeof *x) == 0;
+}
+
+/* A text that must be refused where it is built into so many cells: number, place, the record and every cell. */
+static void refused_build(const uint8_t *text, size_t text_count, size_t count, uint32_t number, size_t at) {
+    double *cells = floats(count, 1), *before = list(count);
+    if (count > 0)
+        memcpy(before, cells, count * sizeof *cells);
+    spline_sheet built = spline_build_sheet(text, text_count, cells, count);
+    must(built.number == number && built.at == at && is_path(built.path, 0, 0, 0, 0.0, 0.0, 0.0));
+    must(same_cells(cells, before, count));
+    free(cells);
+    free(before);
+}
+
+/* A text that must be refused, read or built, with more cells than its table would have. */
+static void refused_text(const uint8_t *text, size_t text_count, uint32_t number, size_t at) {
+    spline_place place = spline_read_sheet(text, text_count);
+    must(place.number == number && place.at == at);
+    refused_build(text, text_count, 24, number, at);
+}
+
+static void refused(const char *text, uint32_t number, size_t at) {
+    refused_text((const uint8_t *)text, strlen(text), number, at);
+}
+
+/* One that only the build's questions refuse. */
+static void refused_at_end(const char *text, uint32_t number) {
+    refused(text, number, strlen(text));
+}
+
+/* A text that must be served, with this table and this record: into just as many cells, and into more, which keep what they
+   held; and not into fewer. */
+static void served_text(const uint8_t *text, size_t text_count, spline_path path, const double *table, size_t count) {
+    must(count == SPLINE_COEFFICIENTS(path.order, path.segments + 1, path.axes));
+    spline_place place = spline_read_sheet(text, text_count);
+    must(place.number == SPLINE_OK && place.at == text_count);
+    for (size_t more = 0; more <= 3; more += 3) {
+        const double kept[3] = {pattern(), -0.0, 1.5};
+        double *cells = list(count + more);
+        memcpy(cells + count, kept, more * sizeof *kept);
+        spline_sheet built = spline_build_sheet(text, text_count, cells, count + more);
+        must(built.number == SPLINE_OK && built.at == text_count);
+        must(is_path(built.path, path.order, path.segments, path.axes, path.s_min, path.s_max, path.inv_ds));
+        must(same_cells(cells, table, count) && same_cells(cells + count, kept, more));
+        free(cells);
+    }
+    refused_build(text, text_count, count - 1, SPLINE_INVALID_LENGTH, text_count);
+}
+
+/* The curves here have records in which no two numbers of a kind are equal. */
+static void known_curves(void) {
+    static const char two[] = "(order 5)\n(range -1 1)\n(axis (points 0 1) (start 1 0) (end (again 2 0)))\n"
+                              "(axis (points (again 1 1 0)) (start 0 0) (end 0 0))\n";
+    static const double table[] = {0, 0, 6, -2, 4, 6, 0, -2}, both[] = {0, 1, 0, 4, -7, 3, 1, 0, 0, -10, 15, -6};
+    spline_path path = {.order = 3, .segments = 2, .axes = 1, .s_max = 2.0, .inv_ds = 1.0};
+    must(sizeof SHEET - 1 == 62);
+    served_text((const uint8_t *)SHEET, 62, path, table, 8);
+    path = (spline_path){.order = 5, .segments = 1, .axes = 2, .s_min = -1.0, .s_max = 1.0, .inv_ds = 0.5};
+    served_text((const uint8_t *)two, sizeof two - 1, path, both, 12);
+    refused_build((const uint8_t *)SHEET, 62, 0, SPLINE_INVALID_LENGTH, 62);
+}
+
+static void known_refusals(void) {
+    static const char backward[] = "(order 3)\n(range 2 0)\n(axis (points 0 4 8) (start 0) (end 0))\n";
+    refused_text(NULL, 0, SPLINE_INVALID_SHEET, 0);
+    refused("", SPLINE_INVALID_SHEET, 0);
+    refused("(order 03)", SPLINE_INVALID_SHEET, 8);
+    refused(SHEET "x", SPLINE_INVALID_SHEET, 62);
+    refused(HEAD, SPLINE_INVALID_SHEET, 22);
+    refused(HEAD "(axis (points (again 1 (again 1 (again 1 (again 1 (again 1 0", SPLINE_SHEET_TOO_DEEP, 72);
+    refused(HEAD "(axis (points 1099511627776x", SPLINE_INVALID_SHEET, 49);
+    refused(HEAD "(axis (points 1099511627777x", SPLINE_INVALID_ARGUMENT, 36);
+    refused(HEAD "(axis (points 0 -1099511627777) (start 0) (end 0))\n", SPLINE_INVALID_ARGUMENT, 38);
+    refused(HEAD "(axis (points 0 (again 5 (again 60 1 2))) (start 0) (end 0))\n", SPLINE_INVALID_LENGTH, 38);
+    refused(HEAD "(axis (points 0 1) (start 0 0 0 0) (end 0))\n", SPLINE_INVALID_LENGTH, 54);
+    refused(SHEET "(axis (points 0 4) (start 0) (end 0))\n", SPLINE_INVALID_SHAPE, 79);
+    refused_at_end(backward, SPLINE_INVALID_RANGE);
+    /* question 7 of document 01 comes before question 8 */
+    refused_build((const uint8_t *)backward, 62, 7, SPLINE_INVALID_LENGTH, 62);
+    refused_at_end("(order 4)\n(range 0 2)\n(axis (points 0 4 8) (start 0) (end 0))\n", SPLINE_INVALID_ORDER);
+    refused_at_end(HEAD "(axis (points 0 4 8) (start 0) (end 0 0))\n", SPLINE_DIMENSION_MISMATCH);
+    refused_at_end(HEAD "(axis (points 0) (start 0) (end 0))\n", SPLINE_NOT_ENOUGH_WAYPOINTS);
+}
+
+/* The header's two greatest counts are what the library has: a sheet of just so many bytes and coefficients is built, and it
+   is refused with one byte more or one cell less. */
+static void known_limits(void) {
+    static Text t;
+    static double cells[SPLINE_SHEET_COEFFICIENTS];
+    put_greatest(&t, 0);
+    size_t shortest = t.count;
+    put_greatest(&t, SPLINE_SHEET_BYTES - shortest);
+    must(t.count == SPLINE_SHEET_BYTES);
+    spline_place place = spline_read_sheet(t.bytes, t.count);
+    must(place.number == SPLINE_OK && place.at == t.count);
+    spline_sheet built = spline_build_sheet(t.bytes, t.count, cells, SPLINE_SHEET_COEFFICIENTS);
+    must(built.number == SPLINE_OK && built.at == t.count && is_path(built.path, 7, 256, 8, -2.0, 2.0, 64.0));
+    refused_build(t.bytes, t.count, SPLINE_SHEET_COEFFICIENTS - 1, SPLINE_INVALID_LENGTH, t.count);
+    put_greatest(&t, SPLINE_SHEET_BYTES + 1 - shortest);
+    must(t.count == SPLINE_SHEET_BYTES + 1);
+    refused_text(t.bytes, t.count, SPLINE_INVALID_SHEET, SPLINE_SHEET_BYTES);
+}
+
+/* A sheet that must be served: record and table are those that spline_build has from the sheet's numbers. */
+static void sheet(void) {
+    Sheet *s = some_sheet();
+    size_t count = spline_coefficients(s->config.order, s->points, s->axes), states = s->axes * s->m;
+    double *table = list(count);
+    spline_answer built = spline_build(s->config, s->points, s->axes, s->waypoints, s->axes * s->points, s->start, states,
+                                       s->end, states, table, count);
+    must(built.number == SPLINE_OK);
+    served_text(s->text.bytes, s->text.count, built.path, table, count);
+    free(table);
+    free_sheet(s);
+}
+
+/* Where so many cells are too few for a sheet: into the greatest buffer it is built, or its range is refused. */
+static void needs_more(const Text *t, spline_place place, size_t count) {
+    double *cells = list(SPLINE_SHEET_COEFFICIENTS);
+    spline_sheet built = spline_build_sheet(t->bytes, t->count, cells, SPLINE_SHEET_COEFFICIENTS);
+    must(built.number == place.number && built.at == place.at);
+    must(built.number == SPLINE_INVALID_RANGE
+         || (built.number == SPLINE_OK
+             && count < SPLINE_COEFFICIENTS(built.path.order, built.path.segments + 1, built.path.axes)));
+    free(cells);
+}
+
+/* Any text: a sheet, damaged or not, or bytes at random. Reading and building have the same answer, unless the cells are
+   too few. */
+static void any_text(void) {
+    Sheet *s = some_sheet();
+    Text *t = &s->text;
+    size_t count = near(spline_coefficients(s->config.order, s->points, s->axes));
+    if (one_in(8)) {
+        t->count = 0;
+        move(t, 0, below(100));
+    }
+    for (size_t damages = below(4); damages > 0; damages--)
+        damage(t);
+    double *cells = floats(count, 1);
+    const uint8_t *text = t->count > 0 ? t->bytes : NULL;
+    spline_place place = spline_read_sheet(text, t->count);
+    spline_sheet built = spline_build_sheet(text, t->count, cells, count);
+    if (built.number == SPLINE_INVALID_LENGTH && place.number != SPLINE_INVALID_LENGTH) {
+        must(built.at == t->count);
+        needs_more(t, place, count);
+    } else {
+        must(built.number == place.number && built.at == place.at);
+    }
+    free(cells);
+    free_sheet(s);
+}
+
 int main(int argc, char **argv) {
     long calls = argc > 1 ? atol(argv[1]) : 0;
+    known_curves();
+    known_refusals();
+    known_limits();
     for (long i = 0; i < calls; i++) {
         build();
         query();
         check();
         step();
-        if (i % 5 == 0)
+        any_text();
+        if (i % 5 == 0) {
             curve();
+            sheet();
+        }
     }
     return 0;
 }

@@ -4,8 +4,9 @@
  * be written counts there as never written, as does the padding of a record that is given. So valgrind reports every
  * step beyond a list and every decision on what the caller did not give. After each call it is seen that the number is
  * one that the function has, that the guard cells and all that was lent to be read are as they were, that a refused call
- * changed no cell, and that a served call wrote every cell that it is to write. The record that comes back has every
- * field written: a build's says what was built or is all zero, and a check is good only where it is not refused.
+ * changed no cell, and that a served call wrote every cell that it is to write and no other. The record that comes back
+ * has every field written: a build's says what was built or is all zero, a sheet's is one that a build hands over, a
+ * check is good only where it is not refused, and a place lies in the sheet, at its end where it is served.
  *
  * At the end a row for each function that was called goes to the file that the environment names as ROWS: what was
  * called, against what, calls, cells looked at, and how much was wrong, what valgrind reported included. PROGRAM is the
@@ -27,6 +28,7 @@ typedef struct {
 
 static Seen builds = {"builds", 0, 0, 0, 0}, queries = {"queries", 0, 0, 0, 0};
 static Seen checks = {"master checks", 0, 0, 0, 0}, steps = {"fused multiply-adds", 0, 0, 0, 0};
+static Seen readings = {"sheets read", 0, 0, 0, 0}, sheets = {"sheets built", 0, 0, 0, 0};
 
 static void see(Seen *seen, int right, const char *what) {
     if (!right) {
@@ -49,12 +51,12 @@ static int served(Seen *seen, uint32_t answer, const uint32_t *numbers, size_t c
 }
 
 __attribute__((destructor)) static void print(void) {
-    const Seen *all[] = {&builds, &queries, &checks, &steps};
+    const Seen *all[] = {&builds, &queries, &checks, &steps, &readings, &sheets};
     const char *name = getenv("ROWS");
     FILE *rows = name ? fopen(name, "a") : NULL;
     if (!rows)
         abort();
-    for (int i = 0; i < 4; i++) {
+    for (size_t i = 0; i < sizeof all / sizeof *all; i++) {
         unsigned long long calls = all[i]->served + all[i]->refused;
         if (calls > 0)
             fprintf(rows, PROGRAM ": %s (%llu served, %llu refused)\tvalgrind, guard cells and what was lent\t%llu\t%llu\t%llu\n",
@@ -63,57 +65,73 @@ __attribute__((destructor)) static void print(void) {
     fclose(rows);
 }
 
-/* ---- lists between guard cells. A cell is 64 bits, a double or an int64_t. */
+/* ---- lists between guard cells. A guard cell is 64 bits; an element is so too, a double or an int64_t, or it is a byte. */
 
-enum { GUARD = 8, CELL = sizeof(uint64_t) };
+enum { GUARD = 8, CELL = sizeof(uint64_t), GUARDS = GUARD * CELL };
 
 static const uint64_t GUARD_CELL = 0x4badcafe4badcafe;
 
 typedef struct {
     void *given;
-    size_t count;
+    /* of elements, and the bytes of one */
+    size_t count, size;
     /* the copy that the library gets, with its guard cells, and a second one to compare with */
-    uint64_t *block, *before;
+    unsigned char *block, *before;
 } List;
 
-static uint64_t *cells(const List *l) {
-    return l->block + GUARD;
+static unsigned char *elements(const List *l) {
+    return l->block + GUARDS;
+}
+
+/* The guard cells after the elements; those before them are where the block starts. */
+static unsigned char *after(const List *l) {
+    return elements(l) + l->count * l->size;
+}
+
+static List lend_elements(const void *given, size_t count, size_t size, int written) {
+    List l = {(void *)given, count, size, malloc(count * size + 2 * GUARDS), malloc(count * size + 1)};
+    if (!l.block || !l.before)
+        abort();
+    for (size_t i = 0; i < GUARD; i++) {
+        memcpy(l.block + i * CELL, &GUARD_CELL, CELL);
+        memcpy(after(&l) + i * CELL, &GUARD_CELL, CELL);
+    }
+    if (count > 0) {
+        memcpy(elements(&l), given, count * size);
+        memcpy(l.before, given, count * size);
+        VALGRIND_MAKE_MEM_DEFINED(l.before, count * size);
+    }
+    VALGRIND_MAKE_MEM_NOACCESS(l.block, GUARDS);
+    VALGRIND_MAKE_MEM_NOACCESS(after(&l), GUARDS);
+    if (written)
+        VALGRIND_MAKE_MEM_UNDEFINED(elements(&l), count * size);
+    return l;
 }
 
 static List lend(const void *given, size_t count, int written) {
-    List l = {(void *)given, count, malloc((count + 2 * GUARD) * CELL), malloc((count + 1) * CELL)};
-    if (!l.block || !l.before)
-        abort();
-    for (size_t i = 0; i < GUARD; i++)
-        l.block[i] = cells(&l)[count + i] = GUARD_CELL;
-    if (count > 0) {
-        memcpy(cells(&l), given, count * CELL);
-        memcpy(l.before, given, count * CELL);
-        VALGRIND_MAKE_MEM_DEFINED(l.before, count * CELL);
-    }
-    VALGRIND_MAKE_MEM_NOACCESS(l.block, GUARD * CELL);
-    VALGRIND_MAKE_MEM_NOACCESS(cells(&l) + count, GUARD * CELL);
-    if (written)
-        VALGRIND_MAKE_MEM_UNDEFINED(cells(&l), count * CELL);
-    return l;
+    return lend_elements(given, count, CELL, written);
+}
+
+static List lend_text(const uint8_t *given, size_t count) {
+    return lend_elements(given, count, 1, 0);
 }
 
 /* What the library gets. No list at all stays none. */
 static void *lent(const List *l) {
-    return l->given ? cells(l) : NULL;
+    return l->given ? elements(l) : NULL;
 }
 
-/* After the call, where the library wrote all of the list or was to write none of it. */
-static void take_back(Seen *seen, List *l, int written) {
-    if (written)
-        see(seen, VALGRIND_CHECK_MEM_IS_DEFINED(cells(l), l->count * CELL) == 0, "a cell was not written");
-    VALGRIND_MAKE_MEM_DEFINED(l->block, (l->count + 2 * GUARD) * CELL);
-    for (size_t i = 0; i < GUARD; i++)
-        see(seen, l->block[i] == GUARD_CELL && cells(l)[l->count + i] == GUARD_CELL, "a guard cell was written to");
-    if (!written)
-        see(seen, memcmp(cells(l), l->before, l->count * CELL) == 0, "a cell was changed");
-    else if (l->count > 0)
-        memcpy(l->given, cells(l), l->count * CELL);
+/* After the call, where the library was to write so many elements, the first ones, and none of the others. */
+static void take_back(Seen *seen, List *l, size_t count) {
+    size_t written = count * l->size, all = l->count * l->size;
+    see(seen, VALGRIND_CHECK_MEM_IS_DEFINED(elements(l), written) == 0, "a cell was not written");
+    VALGRIND_MAKE_MEM_DEFINED(l->block, all + 2 * GUARDS);
+    for (size_t i = 0; i < GUARDS; i += CELL)
+        see(seen, memcmp(l->block + i, &GUARD_CELL, CELL) == 0 && memcmp(after(l) + i, &GUARD_CELL, CELL) == 0,
+            "a guard cell was written to");
+    see(seen, memcmp(elements(l) + written, l->before + written, all - written) == 0, "a cell was changed");
+    if (written > 0)
+        memcpy(l->given, elements(l), written);
     seen->cells += l->count + 2 * GUARD;
     free(l->block);
     free(l->before);
@@ -175,6 +193,21 @@ static spline_path built(const spline_config *config, size_t points, size_t axes
     return path;
 }
 
+/* How many coefficients a sheet's curve has; 0 where the record is none that a build of a sheet hands over. */
+static size_t sheet_table(const spline_path *path) {
+    spline_config config = {.order = path->order, .s_min = path->s_min, .s_max = path->s_max, .mode = SPLINE_MODE_ERROR};
+    spline_path expected = built(&config, path->segments + 1, path->axes);
+    if (!same_path(path, &expected) || !(path->s_min < path->s_max))
+        return 0;
+    return spline_coefficients(path->order, path->segments + 1, path->axes);
+}
+
+/* Where a sheet is served or refused. */
+static void look_at_place(Seen *seen, int yes, size_t at, size_t text_count) {
+    see(seen, yes ? at == text_count : at <= text_count, "a place outside the sheet, or not at its end");
+    seen->cells += 2;
+}
+
 /* ---- the calls. __real_NAME is the library's function, and a call of NAME comes to __wrap_NAME. */
 
 double __real_spline_mul_add(double a, double b, double c);
@@ -210,7 +243,7 @@ spline_answer __wrap_spline_build(spline_config config, size_t points, size_t ax
     take_back(&builds, &w, 0);
     take_back(&builds, &s, 0);
     take_back(&builds, &e, 0);
-    take_back(&builds, &c, yes);
+    take_back(&builds, &c, yes ? coefficient_count : 0);
     builds.wrong += VALGRIND_COUNT_ERRORS - errors;
     return answer;
 }
@@ -232,7 +265,7 @@ uint32_t __wrap_spline_query(spline_path path, const double *coefficients, size_
     int yes = served(&queries, answer, numbers, sizeof numbers / sizeof *numbers);
     take_back(&queries, &c, 0);
     for (int k = 0; k < 4; k++)
-        take_back(&queries, &out[k], yes && k <= level);
+        take_back(&queries, &out[k], yes && k <= level ? out[k].count : 0);
     queries.wrong += VALGRIND_COUNT_ERRORS - errors;
     return answer;
 }
@@ -260,5 +293,44 @@ spline_check __wrap_spline_check_master(size_t order, const int64_t *waypoints, 
     take_back(&checks, &e, 0);
     take_back(&checks, &t, 0);
     checks.wrong += VALGRIND_COUNT_ERRORS - errors;
+    return answer;
+}
+
+/* The refusal numbers of both functions of sheets. */
+static const uint32_t sheet_numbers[] = {0, 2, 3, 4, 301, 302, 303, 304, 307, 600, 601};
+
+spline_place __real_spline_read_sheet(const uint8_t *text, size_t text_count);
+
+spline_place __wrap_spline_read_sheet(const uint8_t *text, size_t text_count) {
+    unsigned long long errors = VALGRIND_COUNT_ERRORS;
+    List t = lend_text(text, text_count);
+    spline_place answer = __real_spline_read_sheet(lent(&t), text_count);
+    look(&readings, &answer.number, sizeof answer.number);
+    look(&readings, &answer.at, sizeof answer.at);
+    int yes = served(&readings, answer.number, sheet_numbers, sizeof sheet_numbers / sizeof *sheet_numbers);
+    look_at_place(&readings, yes, answer.at, text_count);
+    take_back(&readings, &t, 0);
+    readings.wrong += VALGRIND_COUNT_ERRORS - errors;
+    return answer;
+}
+
+spline_sheet __real_spline_build_sheet(const uint8_t *text, size_t text_count, double *coefficients, size_t coefficient_count);
+
+spline_sheet __wrap_spline_build_sheet(const uint8_t *text, size_t text_count, double *coefficients, size_t coefficient_count) {
+    static const spline_path none;
+    unsigned long long errors = VALGRIND_COUNT_ERRORS;
+    List t = lend_text(text, text_count), c = lend(coefficients, coefficient_count, 1);
+    spline_sheet answer = __real_spline_build_sheet(lent(&t), text_count, lent(&c), coefficient_count);
+    look(&sheets, &answer.number, sizeof answer.number);
+    look(&sheets, &answer.at, sizeof answer.at);
+    look_at_path(&sheets, &answer.path);
+    int yes = served(&sheets, answer.number, sheet_numbers, sizeof sheet_numbers / sizeof *sheet_numbers);
+    look_at_place(&sheets, yes, answer.at, text_count);
+    size_t table = yes ? sheet_table(&answer.path) : 0;
+    int proper = yes ? table > 0 && table <= coefficient_count : same_path(&answer.path, &none);
+    see(&sheets, proper, "a record that no sheet has or that the cells are too few for, or not all zero");
+    take_back(&sheets, &t, 0);
+    take_back(&sheets, &c, proper ? table : 0);
+    sheets.wrong += VALGRIND_COUNT_ERRORS - errors;
     return answer;
 }

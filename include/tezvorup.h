@@ -218,8 +218,8 @@ spline_place spline_read_sheet(const uint8_t *text, size_t text_count);
  *               contents. How many are filled is SPLINE_COEFFICIENTS of the record's order, segments + 1 and axes.
  *               SPLINE_SHEET_COEFFICIENTS cells suffice for every sheet
  *
- * Answers as spline_read_sheet does, or 2 and the sheet's length where the cells are fewer than the table has. At a
- * refusal coefficients hold what they held.
+ * Answers as spline_read_sheet does, or 2 and the sheet's length where the cells are fewer than the table has, which is
+ * asked before the range (301). At a refusal coefficients hold what they held.
  */
 spline_sheet spline_build_sheet(const uint8_t *text, size_t text_count, double *coefficients, size_t coefficient_count);
 
