@@ -1,15 +1,14 @@
 -- A buffer of 16,384 cells suffices: where the order, the points and the axes pass, the table is no longer. Assumes nothing.
-use mathlib.Core.Path.{_≡_, refl, sym, ap, subst, _∙_}
+use mathlib.Core.Path.{_≡_, refl, ap}
 use mathlib.Core.Bool.{Bool, true, false, _&&_}
-use mathlib.Core.List.{List, [], _∷_, _++_}
-use Prim.Native.Nat.{ℕ, _+_, _-_, _*_, _≤_, min}
+use mathlib.Core.List.{List, _∷_}
+use Prim.Native.Nat.{ℕ, _+_, _-_, _≤_, min}
 use native.Mathlib.Nat.{mul-le-mul}
 use native.Mathlib.Omega.{arith}
-use lib.Dec.{T, leb, eqb}
-use lib.Ieee.Fits.{and-r}
+use lib.Dec.{T, leb}
 use borrow.Author.Tests.{leb-true}
 use Rattle.rules.specs.Questions.{Question, ask, firstNo}
-use Rattle.rules.specs.Build.{BuildInput, validOrder, validAxes, inputQuestions, pivotQuestions, buildQuestions, buildNumber, buildAnswer}
+use Rattle.rules.specs.Build.{BuildInput, validOrder, validAxes, inputQuestions, buildQuestions, buildNumber, buildAnswer}
 use Rattle.rules.specs.SheetFaults.{Judged, readable, refused, judge}
 use Rattle.rules.specs.SheetAnswers.{sheetInput, cellsOf, answerFor, sheetAnswer, sheetServed, mostCells}
 use Rattle.rules.proofs.Build.{by-order}

@@ -1,6 +1,6 @@
 -- What printing answers, and what it leaves in the two buffers. Assumes nothing.
 use mathlib.Core.Path.{_≡_, refl, sym, ap, ap₂, subst, _∙_}
-use mathlib.Core.Bool.{Bool, true, false, cond, _&&_}
+use mathlib.Core.Bool.{Bool, true, false, _&&_}
 use mathlib.Core.List.{List, _++_}
 use Prim.Native.Nat.{ℕ, _≤_, _<_}
 use lib.ListN.{length, drop}
@@ -10,11 +10,8 @@ use borrow.Author.Tests.{le-leb, lt-leb}
 use Rattle.rules.specs.declared.SheetAnswer.{SheetAnswer}
 use Rattle.rules.specs.SheetFaults.{judge}
 use Rattle.rules.specs.SheetAnswers.{
-  cellsOf,
-  answerFor,
   sheetAnswer,
   sheetServed,
-  bufferFor,
   sheetBuffer,
   sheetOutput,
   sheetPrinted,

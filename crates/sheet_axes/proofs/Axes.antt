@@ -2,19 +2,19 @@
 use mathlib.Core.Path.{_≡_, refl, sym, ap, ap₂, subst, _∙_}
 use mathlib.Core.Bool.{Bool, true, false, cond}
 use mathlib.Core.List.{List, [], _∷_, _++_, append-assoc, append-nil}
-use Prim.Native.Nat.{ℕ, zero, suc, _+_, _-_, _*_, _<_, _≤_}
+use Prim.Native.Nat.{ℕ, suc, _+_, _-_, _*_, _<_, _≤_}
 use native.Mathlib.Omega.{arith}
 use native.Mathlib.Nat.{mul-le-mul}
 use lib.IntN.{ℤ}
 use lib.ListN.{length, take, drop, getD, length-append, length-drop, drop-of-length-le, List·getD-append}
 use lib.Seq.{drop-cons, getD-append-add, length-take-le}
 use lib.Dec.{eqb, ltb}
-use borrow.Author.Tests.{eqb-true, eqb-false, eq-eqb, ne-eqb, ltb-true, ltb-false}
+use borrow.Author.Tests.{eqb-true, eqb-false, ne-eqb, ltb-true, ltb-false}
 use Rattle.rules.specs.declared.SheetPlace.{SheetPlace}
-use Rattle.rules.specs.Sheets.{Items, States, states, Axis, axis, Axes, only, next, within, below4, spellAxis}
+use Rattle.rules.specs.Sheets.{states, Axis, axis, Axes, only, next, within, below4, spellAxis}
 use Rattle.rules.specs.SheetReading as reading
 use Rattle.rules.specs.SheetFaults.{Refusal, size, firstCount, axesSizes, axisSizes}
-use Rattle.rules.specs.SheetAnswers.{numbers, axesOf, pointsOf, startOf, endOf, ofEach, columnsOf}
+use Rattle.rules.specs.SheetAnswers.{axesOf, pointsOf, startOf, endOf, ofEach, columnsOf}
 use Rattle.sheet_laws.proofs.Exact.{then-got}
 use Rattle.sheet_items.proofs.Sizes.{list-size}
 use Rattle.sheet_items.proofs.Lists.{then-then}
@@ -22,12 +22,12 @@ use Rattle.sheet_puts.specs.Put.{put}
 use Rattle.sheet_axis.specs.declared.AxisSizes.{AxisSizes}
 use Rattle.sheet_axis.specs.declared.AxisRead.{AxisRead}
 use Rattle.sheet_axis.specs.declared.AxisRead.the-variants as axisRead
-use Rattle.sheet_axis.specs.Says.{Reads, Stops, placeOf, faultOf, AxisTo, AxisSays}
+use Rattle.sheet_axis.specs.Says.{Stops, placeOf, faultOf, AxisTo, AxisSays}
 use Rattle.sheet_axes.specs.declared.AxesSizes.{AxesSizes}
 use Rattle.sheet_axes.specs.declared.AxesRead.the-variants as axesRead
-use Rattle.sheet_axes.specs.Says.{firstPlace, withAxis, togetherOf, Clean, AxesTo, AxesSay}
+use Rattle.sheet_axes.specs.Says.{firstPlace, withAxis, togetherOf, Clean, AxesSay}
 use Rattle.sheet_axes.proofs.Numbers.{AllNear, list-near, list-some}
-use Rattle.sheet_axes.proofs.Buffers.{Keeps, keeps-none, keeps-more, part, back}
+use Rattle.sheet_axes.proofs.Buffers.{Keeps, keeps-none, keeps-more}
 use Rattle.sheet_axes.proofs.Columns.{columns-more, each-more, each-length}
 use Rattle.sheet_axes.proofs.Sizes.{orElse, exact, no-fault-means, sizes-exact, nothing-more, axis-fault}
 

@@ -1,37 +1,25 @@
 -- The parts of an axis, one after the other. Assumes nothing.
-use mathlib.Core.Path.{_≡_, refl, sym, ap, subst, _∙_}
+use mathlib.Core.Path.{_≡_, subst, _∙_}
 use mathlib.Core.List.{List, []}
-use Prim.{Unit, tt}
-use Prim.Native.Nat.{ℕ, suc, _+_, _-_, _≤_, _<_, min}
+use Prim.{tt}
+use Prim.Native.Nat.{ℕ, suc, _+_, _-_, _≤_}
 use native.Mathlib.Omega.{arith}
 use lib.IntN.{ℤ}
 use lib.ListN.{length, drop, length-append, length-drop}
 use Rattle.rules.specs.Sheets.{Items, States, states, axis, bytes, spellItems, spellStates, spellAxis, within, below4}
 use Rattle.rules.specs.SheetReading as reading
-use Rattle.rules.specs.SheetAnswers.{numbers}
 use Rattle.sheet_laws.proofs.Fuel.{fuel}
 use Rattle.sheet_laws.proofs.Limits.{list-spelled}
 use Rattle.sheet_items.specs.declared.Listed.{Listed}
 use Rattle.sheet_items.specs.declared.Listed.the-variants as listed
-use Rattle.sheet_items.specs.Says.{ListTo, ListStops, ListFilled}
+use Rattle.sheet_items.specs.Says.{ListStops, ListFilled}
 use Rattle.sheet_items.proofs.Sizes.{list-size}
 use Rattle.sheet_axis.specs.declared.StateSizes.{StateSizes}
 use Rattle.sheet_axis.specs.declared.StatesRead.{StatesRead}
 use Rattle.sheet_axis.specs.declared.StatesRead.the-variants as statesRead
-use Rattle.sheet_axis.specs.declared.AxisRead.{AxisRead}
 use Rattle.sheet_axis.specs.declared.AxisRead.the-variants as axisRead
-use Rattle.sheet_axis.specs.Says.{Reads, Stops, ledList, ListIn, ListRead, ListSays, StatesTo, StatesSay, AxisTo, AxisSays}
-use Rattle.sheet_axis.proofs.Joins.{
-  far,
-  wordAt,
-  word-far,
-  lead-reads,
-  lead-stops,
-  lead-fails,
-  pair-fails,
-  pair-reads,
-  pair-stops,
-}
+use Rattle.sheet_axis.specs.Says.{Reads, Stops, ledList, ListIn, ListRead, ListSays, StatesTo, StatesSay, AxisSays}
+use Rattle.sheet_axis.proofs.Joins.{far, wordAt, word-far, lead-reads, lead-stops, pair-fails, pair-reads, pair-stops}
 
 -- ---- a list that the list routine has read
 

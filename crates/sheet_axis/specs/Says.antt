@@ -7,7 +7,7 @@ use lib.IntN.{ℤ}
 use lib.ListN.{length, drop}
 use lib.Dec.{leb, eqb}
 use Rattle.rules.specs.declared.SheetPlace.{SheetPlace}
-use Rattle.rules.specs.Sheets.{Items, States, states, Axis, axis, bytes, spellItems, spellStates, spellAxis, ValidItems, within, below4}
+use Rattle.rules.specs.Sheets.{Items, states, axis, bytes, spellItems, spellStates, spellAxis, ValidItems, within, below4}
 use Rattle.rules.specs.SheetReading as reading
 use Rattle.rules.specs.SheetFaults.{size}
 use Rattle.rules.specs.SheetAnswers.{numbers}

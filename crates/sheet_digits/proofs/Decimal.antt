@@ -1,40 +1,18 @@
--- Decimal digits: a number's are those of its tenth and one more, and how many there are. Assumes nothing.
+-- Decimal digits: how many there are, and written from the last to the first. Assumes nothing.
 use Prim.{tt}
 use mathlib.Core.Path.{_≡_, refl, sym, ap, _∙_}
 use mathlib.Core.Bool.{Bool, true, false}
-use mathlib.Core.List.{List, [], _∷_, _++_}
+use mathlib.Core.List.{List, [], _∷_}
 use Prim.Native.Nat.{ℕ, zero, suc, _+_, _/_, _%_, _^_, _<_, _≤_}
 use native.Mathlib.Nat.{pow-suc, div-lt-iff-lt-mul}
 use native.Mathlib.Omega.{arith}
 use lib.ListN.{length, set, length-append}
 use lib.Dec.{ltb, lit≤}
-use borrow.Author.Tests.{ltb-true, ltb-false, lt-ltb, le-ltb}
-use Rattle.rules.specs.Sheets.{decimal, natural}
+use borrow.Author.Tests.{ltb-true, ltb-false}
+use Rattle.rules.specs.Sheets.{natural}
+use Rattle.sheet_laws.proofs.Decimal.{natural-digit, natural-tenth}
 use Rattle.sheet_digits.specs.Written.{written}
 use Rattle.sheet_digits.proofs.Writing.{before-set, written-none}
-
--- more fuel than the number changes nothing
-enough : (f g n : ℕ) → n < f → n < g → decimal f n ≡ decimal g n
-unfolding decimal
-enough zero g n h k = absurd (omega arith)
-enough (suc f) zero n h k = absurd (omega arith)
-enough (suc f) (suc g) n h k = go (ltb n 10) refl (λ l. enough f g (n / 10) (omega arith) (omega arith))
-  where
-    go : (b : Bool) → ltb n 10 ≡ b → (10 ≤ n → decimal f (n / 10) ≡ decimal g (n / 10)) → decimal (suc f) n ≡ decimal (suc g) n
-    go true e r = rw (e, decimal)
-    go false e r = rw (e, decimal) (ap (λ l. l ++ ((48 + n % 10) ∷ [])) (r (ltb-false n 10 e)))
-
-pub natural-digit : (d : ℕ) → d < 10 → natural d ≡ (48 + d) ∷ []
-unfolding natural decimal
-natural-digit d h = rw (lt-ltb d 10 h, decimal)
-
-last-digit : (m : ℕ) → 10 ≤ m → decimal (suc m) m ≡ decimal m (m / 10) ++ ((48 + m % 10) ∷ [])
-unfolding decimal
-last-digit m l = rw (le-ltb m 10 l, decimal)
-
-pub natural-tenth : (n : ℕ) → 10 ≤ n → natural n ≡ natural (n / 10) ++ ((48 + n % 10) ∷ [])
-unfolding natural
-natural-tenth n h = last-digit n h ∙ ap (λ l. l ++ ((48 + n % 10) ∷ [])) (enough n (suc (n / 10)) (n / 10) (omega arith) (omega arith))
 
 pub length-tenth : (n : ℕ) → 10 ≤ n → length (natural n) ≡ length (natural (n / 10)) + 1
 length-tenth n h = ap length (natural-tenth n h) ∙ length-append (natural (n / 10)) ((48 + n % 10) ∷ [])

@@ -2,12 +2,12 @@
 use mathlib.Core.Path.{_≡_, refl, sym, ap, _∙_}
 use mathlib.Core.Logic.{inl, inr}
 use mathlib.Core.List.{List, [], _∷_}
-use Prim.Native.Nat.{ℕ, suc, _+_, _≤_, _<_, min}
+use Prim.Native.Nat.{ℕ, _+_, _≤_, _<_, min}
 use native.Mathlib.Omega.{arith}
 use lib.IntN.{ℤ}
 use lib.ListN.{length, drop, getD, drop-of-length-le}
 use borrow.Author.Tests.{eq-eqb, ne-eqb, lt-ltb, le-ltb}
-use Rattle.rules.specs.Sheets.{Item, Items, one, more, within, below4}
+use Rattle.rules.specs.Sheets.{Item, within}
 use Rattle.rules.specs.SheetReading as reading
 use Rattle.sheet_puts.specs.Put.{put}
 use Rattle.sheet_numbers.specs.declared.Counted.{Counted}
@@ -20,7 +20,7 @@ use Rattle.sheet_items.specs.declared.Opening.the-variants as opening
 use Rattle.sheet_items.specs.declared.Filled.{Filled}
 use Rattle.sheet_items.specs.declared.Filled.the-variants as filled
 use Rattle.sheet_items.specs.declared.Follows.the-variants as follows
-use Rattle.sheet_items.specs.Says.{itemWith, afterWith, Opened, NumberFilled, Following}
+use Rattle.sheet_items.specs.Says.{Opened, NumberFilled, Following}
 
 module _ (text : List ℕ) (read : Filled) where
   pub follow-stop : (k at : ℕ) → read ≡ filled.Stop k at → Following text read (follows.Stop k at)

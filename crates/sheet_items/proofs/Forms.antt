@@ -1,12 +1,12 @@
 -- An item is a number, a form of a list, or a fault. Assumes nothing.
-use mathlib.Core.Path.{_≡_, refl, sym, ap, subst, _∙_}
-use mathlib.Core.List.{List, [], _∷_}
+use mathlib.Core.Path.{_≡_, sym, subst, _∙_}
+use mathlib.Core.List.{List}
 use Prim.Native.Nat.{ℕ, suc, _+_, _-_, _*_, _≤_, _<_, min}
 use native.Mathlib.Omega.{arith}
 use native.Mathlib.Numerals.{add-one}
 use lib.IntN.{ℤ}
 use lib.ListN.{length, drop}
-use Rattle.rules.specs.Sheets.{Item, Items, whole, again, within}
+use Rattle.rules.specs.Sheets.{whole, again}
 use Rattle.rules.specs.SheetReading as reading
 use Rattle.rules.specs.SheetAnswers.{numbers, numbersOf, times}
 use Rattle.sheet_puts.specs.Put.{put, block}
@@ -17,22 +17,7 @@ use Rattle.sheet_items.specs.declared.Filled.{Filled}
 use Rattle.sheet_items.specs.declared.Filled.the-variants as filled
 use Rattle.sheet_items.specs.declared.Listed.{Listed}
 use Rattle.sheet_items.specs.declared.Listed.the-variants as listed
-use Rattle.sheet_items.specs.Says.{
-  listAt,
-  itemAt,
-  endAfter,
-  Opened,
-  NumberFilled,
-  ItemTo,
-  ItemStops,
-  ItemFilled,
-  ListTo,
-  ListStops,
-  ListFilled,
-  EndsIn,
-  repeatedItem,
-  repeatedIn,
-}
+use Rattle.sheet_items.specs.Says.{listAt, endAfter, Opened, NumberFilled, ItemFilled, ListFilled, EndsIn, repeatedItem, repeatedIn}
 
 -- a list that was written and then repeated
 times-put : (out : List ℤ) (at : ℕ) (xs : List ℤ) → at ≤ length out → (n : ℕ) → 1 ≤ n → (mid : List ℤ) (end : ℕ) → mid ≡ put out at xs

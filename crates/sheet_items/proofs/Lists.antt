@@ -2,15 +2,15 @@
 use mathlib.Core.Path.{_≡_, refl, sym, ap, subst, _∙_}
 use mathlib.Core.Logic.{⊎-elim}
 use mathlib.Core.Bool.{Bool, true, false, cond}
-use mathlib.Core.List.{List, [], _∷_, _++_, append-assoc, append-nil}
-use Prim.Native.Nat.{ℕ, suc, _+_, _-_, _≤_, _<_, min}
+use mathlib.Core.List.{List, [], _++_, append-assoc, append-nil}
+use Prim.Native.Nat.{ℕ, _+_, _-_, _≤_, _<_, min}
 use native.Mathlib.Omega.{arith}
 use lib.IntN.{ℤ}
 use lib.ListN.{length, take, drop, length-append, length-drop, length-take, take-append-drop}
 use lib.Seq.{take-all}
 use lib.Dec.{ltb}
 use borrow.Author.Tests.{ltb-true, ltb-false, lt-ltb, le-ltb}
-use Rattle.rules.specs.Sheets.{Item, Items, whole, again, one, more, bytes, spellItem, within, below4}
+use Rattle.rules.specs.Sheets.{Item, Items, one, more, bytes, spellItem, within, below4}
 use Rattle.rules.specs.SheetReading as reading
 use Rattle.rules.specs.SheetFaults.{sizeOf}
 use Rattle.rules.specs.SheetAnswers.{numbers, numbersOf}

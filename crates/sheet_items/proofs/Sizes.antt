@@ -1,11 +1,11 @@
 -- A list stands for as many numbers as its size says. Assumes nothing.
 use mathlib.Core.Path.{_≡_, refl, ap, _∙_}
-use Prim.Native.Nat.{ℕ, _+_, _*_}
+use Prim.Native.Nat.{_*_}
 use native.Mathlib.Omega.{arith}
 use lib.ListN.{length, length-append}
 use Rattle.rules.specs.Sheets.{Item, Items, whole, again, one, more}
 use Rattle.rules.specs.SheetFaults.{sizeOf, size}
-use Rattle.rules.specs.SheetAnswers.{numbers, numbersOf, times}
+use Rattle.rules.specs.SheetAnswers.{numbers, numbersOf}
 use Rattle.sheet_puts.proofs.Puts.{length-times}
 
 mutual

@@ -1,16 +1,14 @@
 -- Decimal numbers: a number's digits are those of its tenth and one more, and reading them gives the number back. Assumes nothing.
 use Prim.{Unit, tt}
-use mathlib.Core.Path.{_≡_, refl, sym, ap, subst, _∙_}
+use mathlib.Core.Path.{_≡_, refl, ap, subst, _∙_}
 use mathlib.Core.Bool.{Bool, true, false, _&&_}
 use mathlib.Core.List.{List, [], _∷_, _++_, append-assoc}
 use Prim.Native.Nat.{ℕ, zero, suc, _+_, _-_, _*_, _/_, _%_, _<_, _≤_}
 use native.Mathlib.Omega.{arith}
-use lib.IntN.{ℤ, pos, negsuc, negℤ}
-use lib.ListN.{length, length-append}
-use lib.Dec.{leb, ltb, eqb}
-use borrow.Author.Tests.{ltb-true, ltb-false, leb-true, leb-false, lt-ltb, le-ltb, le-leb, lt-leb, eq-eqb, ne-eqb}
-use Rattle.rules.specs.Sheets.{decimal, natural, signed}
-use Rattle.rules.specs.SheetReading.{Read, got, stop, then, isDigit, isFirst, digits, positive, number, count, upTo64}
+use lib.Dec.{leb, ltb}
+use borrow.Author.Tests.{ltb-true, ltb-false, leb-true, lt-ltb, le-ltb, le-leb}
+use Rattle.rules.specs.Sheets.{decimal, natural}
+use Rattle.rules.specs.SheetReading.{Read, got, isDigit, isFirst, digits, positive}
 
 -- more fuel than the number changes nothing
 enough : (f g n : ℕ) → n < f → n < g → decimal f n ≡ decimal g n
@@ -31,12 +29,15 @@ last-digit : (m : ℕ) → 10 ≤ m → decimal (suc m) m ≡ decimal m (m / 10)
 unfolding decimal
 last-digit m l = rw (le-ltb m 10 l, decimal)
 
-pub natural-more : (n d : ℕ) → 1 ≤ n → d < 10 → natural (n * 10 + d) ≡ natural n ++ ((48 + d) ∷ [])
+pub natural-tenth : (n : ℕ) → 10 ≤ n → natural n ≡ natural (n / 10) ++ ((48 + n % 10) ∷ [])
 unfolding natural
+natural-tenth n h = last-digit n h ∙ ap (λ l. l ++ ((48 + n % 10) ∷ [])) (enough n (suc (n / 10)) (n / 10) (omega arith) (omega arith))
+
+natural-more : (n d : ℕ) → 1 ≤ n → d < 10 → natural (n * 10 + d) ≡ natural n ++ ((48 + d) ∷ [])
 natural-more n d h k =
     let q : (n * 10 + d) / 10 ≡ n = omega arith in
     let r : (n * 10 + d) % 10 ≡ d = omega arith in
-    last-digit (n * 10 + d) (omega arith) ∙ rw (q, r) (ap (λ l. l ++ ((48 + d) ∷ [])) (enough (n * 10 + d) (suc n) n (omega arith) (omega arith)))
+    natural-tenth (n * 10 + d) (omega arith) ∙ rw (q, r)
 
 -- ---- a digit, or not
 
@@ -77,7 +78,8 @@ module _ (fits : ℕ → Bool) (over : List ℕ → Read ℕ) where
   digits-end n [] h = refl
   digits-end n (b ∷ z) h = rw (h, digits)
 
-  pub digits-byte : (n b : ℕ) (z : List ℕ) → isDigit b ≡ true → fits (n * 10 + (b - 48)) ≡ true → digits fits over n (b ∷ z) ≡ digits fits over (n * 10 + (b - 48)) z
+  pub digits-byte : (n b : ℕ) (z : List ℕ) → isDigit b ≡ true → fits (n * 10 + (b - 48)) ≡ true → digits fits over n (b ∷ z)
+      ≡ digits fits over (n * 10 + (b - 48)) z
   unfolding digits
   digits-byte n b z h f = rw (h, f, digits)
 
@@ -107,8 +109,7 @@ module _ (fits : ℕ → Bool) (over : List ℕ → Read ℕ) where
             let m = ltb-false v 10 e in
             let s : v / 10 * 10 + v % 10 ≡ v = omega arith in
             let k' : fits (v / 10 * 10 + v % 10) ≡ true = rw s k in
-            let n : natural v ≡ natural (v / 10) ++ ((48 + v % 10) ∷ []) = sym (ap natural s) ∙ natural-more (v / 10) (v % 10) (omega arith) (omega arith) in
-            ap (λ l. positive fits over (l ++ z)) n
+            ap (λ l. positive fits over (l ++ z)) (natural-tenth v m)
             ∙ ap (positive fits over) (append-assoc (natural (v / 10)) ((48 + v % 10) ∷ []) z)
             ∙ r (v / 10) (omega arith) (omega arith) (shorter (v / 10) (v % 10) k') ((48 + v % 10) ∷ z)
             ∙ digits-step (v / 10) (v % 10) z (omega arith) k'

@@ -1,9 +1,10 @@
--- A reading is exact: it reads every spelling, what it reads is a spelling, and where it stops with 600 the bytes before can still become a spelling, and with the
+-- A reading is exact: it reads every spelling, what it reads is a spelling, and where it stops with 600 the bytes before can still become a spelling, and
+-- with the
 -- byte that it stops at they cannot. Two exact readings one after the other are exact. Assumes nothing.
-use Prim.{Unit, tt}
+use Prim.{Unit}
 use mathlib.Core.Path.{_≡_, refl, sym, ap, subst, _∙_}
-use mathlib.Core.List.{List, [], _∷_, _++_, append-assoc}
-use Prim.Native.Nat.{ℕ, zero, suc, _+_, _<_, _≤_}
+use mathlib.Core.List.{List, _∷_, _++_, append-assoc}
+use Prim.Native.Nat.{ℕ, _<_, _≤_}
 use native.Mathlib.Omega.{arith}
 use lib.ListN.{length, length-append}
 use Rattle.rules.specs.SheetReading.{Read, got, stop, then}
@@ -52,14 +53,16 @@ module _ {A B C : Type 0} (mk : A → B → C)
     pub complete : Complete spA VA P FA
 
   module _ (j : Joins) where
-    pub both-complete : Complete spB VB Q FB → (a : A) (b : B) (z : List ℕ) (m : ℕ) → VA a → VB b → FB b z → length (spC (mk a b) ++ z) < m → both m (spC (mk a b) ++ z) ≡ got (mk a b) z
+    pub both-complete : Complete spB VB Q FB → (a : A) (b : B) (z : List ℕ) (m : ℕ) → VA a → VB b → FB b z → length (spC (mk a b) ++ z) < m
+        → both m (spC (mk a b) ++ z) ≡ got (mk a b) z
     unfolding Complete then
     both-complete q a b z m va vb fb l =
         let e : spC (mk a b) ++ z ≡ spA a ++ (spB b ++ z) = ap (λ s. s ++ z) (j .spell a b) ∙ append-assoc (spA a) (spB b) z in
         let l' : length (spA a ++ (spB b ++ z)) < m = rw e at l in
         rw (e, j .complete a (spB b ++ z) m va (j .next a b z vb) l', q b z m vb fb (omega (arith, length-append (spA a) (spB b ++ z))))
 
-    pub both-out : (n : ℕ) (t : List ℕ) → Out spA VA P FA t (P n t) → ((t1 : List ℕ) → length t1 ≤ length t → Out spB VB Q FB t1 (Q n t1)) → Out spC VC both FC t (both n t)
+    pub both-out : (n : ℕ) (t : List ℕ) → Out spA VA P FA t (P n t) → ((t1 : List ℕ) → length t1 ≤ length t → Out spB VB Q FB t1 (Q n t1))
+        → Out spC VC both FC t (both n t)
     unfolding Complete then
     both-out n t (other k rest e h) q = other k rest (rw e) h
     both-out n t (faults rest e f) q = faults rest (rw e) (record {
@@ -73,16 +76,23 @@ module _ {A B C : Type 0} (mk : A → B → C)
     })
     both-out n t (reads a t1 e s va fa) q = go (Q n t1) refl (q t1 (let i = ap length s in omega (arith, length-append (spA a) t1)))
       where
-        second : {rest : List ℕ} (f : Fault spB VB Q t1 rest) (b : ℕ) (r : List ℕ) → rest ≡ b ∷ r → (m : ℕ) (y : List ℕ) → length ((spA a ++ f .before) ++ (b ∷ y)) < m
+        second : {rest : List ℕ} (f : Fault spB VB Q t1 rest) (b : ℕ) (r : List ℕ) → rest ≡ b ∷ r → (m : ℕ) (y : List ℕ)
+            → length ((spA a ++ f .before) ++ (b ∷ y)) < m
             → both m ((spA a ++ f .before) ++ (b ∷ y)) ≡ stop 600 (b ∷ y)
         second f b r h m y l =
             let c = append-assoc (spA a) (f .before) (b ∷ y) in
             let l' : length (spA a ++ (f .before ++ (b ∷ y))) < m = rw c at l in
             let fa' : FA a (f .before ++ (b ∷ r)) = subst (FA a) (f .split ∙ ap (λ x. f .before ++ x) h) fa in
-            rw (c, j .complete a (f .before ++ (b ∷ y)) m va (j .keeps a (f .before) b r y fa') l', f .stops b r h m y (omega (arith, length-append (spA a) (f .before ++ (b ∷ y)))))
+            rw (
+              c,
+              j .complete a (f .before ++ (b ∷ y)) m va (j .keeps a (f .before) b r y fa') l',
+              f .stops b r h m y
+                  (omega (arith, length-append (spA a) (f .before ++ (b ∷ y)))),
+            )
 
         go : (x : Read B) → Q n t1 ≡ x → Out spB VB Q FB t1 (Q n t1) → Out spC VC both FC t (both n t)
-        go x i (reads b z g u vb fb) = reads (mk a b) z (rw (e, g)) (s ∙ ap (λ l. spA a ++ l) u ∙ sym (append-assoc (spA a) (spB b) z) ∙ ap (λ l. l ++ z) (sym (j .spell a b))) (j .valid a b va vb) (j .after a b z fb)
+        go x i (reads b z g u vb fb) = reads (mk a b) z (rw (e, g))
+            (s ∙ ap (λ l. spA a ++ l) u ∙ sym (append-assoc (spA a) (spB b) z) ∙ ap (λ l. l ++ z) (sym (j .spell a b))) (j .valid a b va vb) (j .after a b z fb)
         go x i (other k rest g h) = other k rest (rw (e, g)) h
         go x i (faults rest g f) = faults rest (rw (e, g)) (record {
           before = spA a ++ f .before;
@@ -95,7 +105,8 @@ module _ {A B C : Type 0} (mk : A → B → C)
         })
 
 -- two readings that are the same are exact together
-module _ {A : Type 0} (sp : A → List ℕ) (Ok : A → Type 0) (P P' : ℕ → List ℕ → Read A) (F : A → List ℕ → Type 0) (e : (m : ℕ) (t : List ℕ) → P m t ≡ P' m t) where
+module _ {A : Type 0} (sp : A → List ℕ) (Ok : A → Type 0) (P P' : ℕ → List ℕ → Read A) (F : A → List ℕ → Type 0)
+    (e : (m : ℕ) (t : List ℕ) → P m t ≡ P' m t) where
   pub same-complete : Complete sp Ok P F → Complete sp Ok P' F
   unfolding Complete
   same-complete c a z m v f l = sym (e m (sp a ++ z)) ∙ c a z m v f l

@@ -1,14 +1,14 @@
 -- How much fuel a list is read with does not matter, if it is more than the text's length: so a list is an item and what follows it. Assumes nothing.
-use mathlib.Core.Path.{_≡_, refl, sym, ap, _∙_}
+use mathlib.Core.Path.{_≡_, refl, ap}
 use mathlib.Core.Bool.{Bool, true, false}
 use mathlib.Core.List.{List, [], _∷_}
 use Prim.Native.Nat.{ℕ, zero, suc, _<_, _≤_}
 use native.Mathlib.Omega.{arith}
 use lib.ListN.{length}
 use lib.Dec.{eqb}
-use Rattle.rules.specs.Sheets.{Item, Items, whole, again, one, more}
+use Rattle.rules.specs.Sheets.{Item, Items, again, more}
 use Rattle.rules.specs.SheetReading.{Read, got, stop, then, head, form, item, after, items}
-use Rattle.sheet_laws.proofs.Earliest.{rest, head-short, item-short, items-short}
+use Rattle.sheet_laws.proofs.Short.{rest, head-short, item-short, items-short}
 
 -- two readings go on alike where the first of each is the same and its rest is not longer than n
 then-same : {A B : Type 0} (n : ℕ) (x y : Read A) (f g : A → List ℕ → Read B) → x ≡ y → length (rest x) ≤ n

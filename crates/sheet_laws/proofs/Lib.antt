@@ -2,7 +2,8 @@
 pub mod Decimal
 pub mod Exact
 pub mod Words
+pub mod Steps
 pub mod Items
-pub mod Earliest
+pub mod Short
 pub mod Fuel
 pub mod Limits

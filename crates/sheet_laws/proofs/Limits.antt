@@ -2,14 +2,15 @@
 use mathlib.Core.Path.{_≡_, sym, ap, subst, _∙_}
 use mathlib.Core.Bool.{true}
 use mathlib.Core.List.{List, _++_}
-use Prim.Native.Nat.{ℕ, suc, _+_, _*_, _^_, _<_, _≤_}
+use Prim.Native.Nat.{ℕ, suc, _+_, _*_, _^_, _<_}
 use native.Mathlib.Omega.{arith}
 use lib.ListN.{length}
 use borrow.Author.Tests.{leb-true, le-leb}
 use Rattle.rules.specs.Sheets.{Item, Items, spellItem, spellItems, ValidItem, ValidItems, within, below4}
-use Rattle.rules.specs.SheetReading.{Read, got, stop, item, items}
+use Rattle.rules.specs.SheetReading.{Read, got, item}
 use Rattle.sheet_laws.proofs.Exact.{Out, reads, faults, other, Any}
-use Rattle.sheet_laws.proofs.Items.{ItemEnds, itemN, itemsN, item-out, items-out}
+use Rattle.sheet_laws.proofs.Steps.{ItemEnds, itemN, itemsN}
+use Rattle.sheet_laws.proofs.Items.{item-out, items-out}
 use Rattle.sheet_laws.proofs.Fuel.{list, item-is}
 
 pub within-small : (d : ℕ) → d < 10 → within d ≡ true

@@ -1,18 +1,44 @@
 -- Fixed bytes, counts and numbers are read exactly. Assumes nothing.
 use Prim.{Unit, tt}
 use mathlib.Core.Path.{_≡_, refl, sym, ap, subst, _∙_}
-use mathlib.Core.Bool.{Bool, true, false, _&&_}
-use mathlib.Core.List.{List, [], _∷_, _++_, append-assoc, append-nil}
+use mathlib.Core.Bool.{Bool, true, false}
+use mathlib.Core.List.{List, [], _∷_, _++_, append-nil}
 use Prim.Native.Nat.{ℕ, zero, suc, _+_, _-_, _*_, _<_, _≤_}
 use native.Mathlib.Omega.{arith}
 use lib.IntN.{ℤ, pos, negsuc, negℤ, natAbs}
-use lib.ListN.{length, length-append}
-use lib.Dec.{leb, ltb, eqb}
-use borrow.Author.Tests.{leb-true, leb-false, le-leb, lt-leb, eqb-true, eqb-false, eq-eqb, ne-eqb}
+use lib.ListN.{length}
+use lib.Dec.{eqb}
+use borrow.Author.Tests.{leb-true, le-leb, eqb-true, eqb-false, eq-eqb, ne-eqb}
 use Rattle.rules.specs.Sheets.{natural, decimal, signed, bytes}
 use Rattle.rules.specs.SheetReading.{Read, got, stop, then, word, isDigit, isFirst, digits, positive, number, count, upTo64, head}
-use Rattle.sheet_laws.proofs.Decimal.{natural-digit, natural-more, digit-bounds, first-bounds, Stops, digits-over, positive-reads, positive-complete, DigitsOut, ended, passed, digits-out}
-use Rattle.sheet_laws.proofs.Exact.{Fault, Out, reads, faults, other, Complete, Any, both, Joins, both-complete, both-out, same-complete, same-out, then-got}
+use Rattle.sheet_laws.proofs.Decimal.{
+  natural-digit,
+  first-bounds,
+  Stops,
+  digits-over,
+  positive-reads,
+  positive-complete,
+  DigitsOut,
+  ended,
+  passed,
+  digits-out,
+}
+use Rattle.sheet_laws.proofs.Exact.{
+  Fault,
+  Out,
+  reads,
+  faults,
+  other,
+  Complete,
+  Any,
+  both,
+  Joins,
+  both-complete,
+  both-out,
+  same-complete,
+  same-out,
+  then-got,
+}
 
 -- nothing is both empty and not
 pub no-cons : {b : ℕ} {r : List ℕ} → [] ≡ b ∷ r → ⊥
@@ -34,10 +60,20 @@ word-complete (w ∷ ws) u z m v f l = rw (eq-eqb w w refl, word) (word-complete
 pub word-out : (w t : List ℕ) → Out (λ u. w) always (wordN w) Any t (word w t)
 unfolding word
 word-out [] t = reads tt t refl refl tt tt
-word-out (w ∷ ws) [] = faults [] refl (record { before = []; split = refl; some = tt; valid = tt; tail = w ∷ ws; begins = refl; stops = λ b r e m y l. absurd (no-cons e) })
+word-out (w ∷ ws) [] = faults [] refl (record {
+  before = [];
+  split = refl;
+  some = tt;
+  valid = tt;
+  tail = w ∷ ws;
+  begins = refl;
+  stops =
+      λ b r e m y l. absurd (no-cons e);
+})
 word-out (w ∷ ws) (b ∷ t) = go (eqb b w) refl (word-out ws t)
   where
-    go : (x : Bool) → eqb b w ≡ x → Out (λ u. ws) always (wordN ws) Any t (word ws t) → Out (λ u. w ∷ ws) always (wordN (w ∷ ws)) Any (b ∷ t) (word (w ∷ ws) (b ∷ t))
+    go : (x : Bool) → eqb b w ≡ x → Out (λ u. ws) always (wordN ws) Any t (word ws t)
+        → Out (λ u. w ∷ ws) always (wordN (w ∷ ws)) Any (b ∷ t) (word (w ∷ ws) (b ∷ t))
     go false e o = faults (b ∷ t) (rw (e, word)) (record {
       before = [];
       split = refl;
@@ -83,7 +119,8 @@ module _ (fits : ℕ → Bool) (over : List ℕ → Read ℕ) (small : (d : ℕ)
           let m = first-bounds b e in
           let i : 48 + (b - 48) ≡ b = omega arith in
           let f : natural (b - 48) ++ t ≡ b ∷ t = ap (λ l. l ++ t) (natural-digit (b - 48) (omega arith)) ∙ ap (λ c. c ∷ t) i in
-          rw (e, positive) (some (subst (λ l. DigitsOut fits l over (digits fits over (b - 48) t)) f (digits-out fits over (b - 48) t (omega arith) (small (b - 48) (omega arith)))))
+          rw (e, positive) (some (subst (λ l. DigitsOut fits l over (digits fits over (b - 48) t)) f
+          (digits-out fits over (b - 48) t (omega arith) (small (b - 48) (omega arith)))))
 
 -- ---- counts
 
@@ -176,11 +213,13 @@ module _ (fits : ℕ → Bool) (small : (d : ℕ) → d < 10 → fits d ≡ true
   pub number-complete : Complete signed Number numberN Ends
   unfolding Complete Number Ends signed natural decimal number then
   number-complete (pos zero) z m v f l = refl
-  number-complete (pos (suc n)) z m v f l = number-plain (natural (suc n) ++ z) (suc n) z (positive-complete fits (λ r. stop 4 (natural (suc n) ++ z)) shorter (suc n) (omega arith) v z f)
+  number-complete (pos (suc n)) z m v f l = number-plain (natural (suc n) ++ z) (suc n) z
+      (positive-complete fits (λ r. stop 4 (natural (suc n) ++ z)) shorter (suc n) (omega arith) v z f)
   number-complete (negsuc n) z m v f l = rw (positive-complete fits (λ r. stop 4 (45 ∷ (natural (suc n) ++ z))) shorter (suc n) (omega arith) v z f)
 
   -- where a number's first byte is neither a minus nor 0
-  plain-first : (b : ℕ) (t : List ℕ) → (b ≡ 45 → ⊥) → (b ≡ 48 → ⊥) → number fits (b ∷ t) ≡ then (positive fits (λ r. stop 4 (b ∷ t)) (b ∷ t)) (λ n rest. got (pos n) rest)
+  plain-first : (b : ℕ) (t : List ℕ) → (b ≡ 45 → ⊥) → (b ≡ 48 → ⊥) → number fits (b ∷ t)
+      ≡ then (positive fits (λ r. stop 4 (b ∷ t)) (b ∷ t)) (λ n rest. got (pos n) rest)
   unfolding number
   plain-first b t h k = rw (ne-eqb b 45 h, ne-eqb b 48 k, number)
 
@@ -207,21 +246,33 @@ module _ (fits : ℕ → Bool) (small : (d : ℕ) → d < 10 → fits d ≡ true
     begins = refl;
     stops = λ c r e m y l.
         let i : c ≡ b = cc in
-        plain-first c y (λ j. h (sym i ∙ j)) (λ j. k (sym i ∙ j)) ∙ rw (positive-none fits (λ r. stop 4 (c ∷ y)) c y (subst (λ x. isFirst x ≡ false) (sym i) f));
+        plain-first c y (λ j. h (sym i ∙ j)) (λ j. k (sym i ∙ j))
+        ∙ rw (positive-none fits (λ r. stop 4 (c ∷ y)) c y (subst (λ x. isFirst x ≡ false) (sym i) f));
   }
 
   pub number-out : (t : List ℕ) → Out signed Number numberN Ends t (number fits t)
   unfolding Number number signed then Ends natural decimal
-  number-out [] = faults [] refl (record { before = []; split = refl; some = pos 0; valid = small 0 (omega arith); tail = natural 0; begins = refl; stops = λ b r e m y l. absurd (no-cons e) })
+  number-out [] = faults [] refl (record {
+    before = [];
+    split = refl;
+    some = pos 0;
+    valid = small 0 (omega arith);
+    tail = natural 0;
+    begins = refl;
+    stops =
+        λ b r e m y l. absurd (no-cons e);
+  })
   number-out (b ∷ t) = go (eqb b 45) refl (eqb b 48) refl
     where
-      minus : (x : Read ℕ) → PositiveOut fits t (λ r. stop 4 (b ∷ t)) x → b ≡ 45 → Out signed Number numberN Ends (b ∷ t) (then x (λ n rest. got (negℤ (pos n)) rest))
+      minus : (x : Read ℕ) → PositiveOut fits t (λ r. stop 4 (b ∷ t)) x → b ≡ 45
+          → Out signed Number numberN Ends (b ∷ t) (then x (λ n rest. got (negℤ (pos n)) rest))
       minus x (none e f) i = faults t (rw e) (rw i (minus-fault t f))
       minus x (some (ended zero z e s h k w)) i = absurd (omega arith)
       minus x (some (ended (suc v) z e s h k w)) i = reads (negsuc v) z (rw e) (rw i (ap (λ l. 45 ∷ l) s)) k w
       minus x (some (passed v c z e s h k d big)) i = other 4 (b ∷ t) (rw e) (λ j. omega arith)
 
-      plain : (x : Read ℕ) → PositiveOut fits (b ∷ t) (λ r. stop 4 (b ∷ t)) x → (b ≡ 45 → ⊥) → (b ≡ 48 → ⊥) → Out signed Number numberN Ends (b ∷ t) (then x (λ n rest. got (pos n) rest))
+      plain : (x : Read ℕ) → PositiveOut fits (b ∷ t) (λ r. stop 4 (b ∷ t)) x → (b ≡ 45 → ⊥) → (b ≡ 48 → ⊥)
+          → Out signed Number numberN Ends (b ∷ t) (then x (λ n rest. got (pos n) rest))
       plain x (none e f) h k = faults (b ∷ t) (rw e) (plain-fault b t h k (f b t refl))
       plain x (some (ended zero z e s i k w)) h j = absurd (omega arith)
       plain x (some (ended (suc v) z e s i k w)) h j = reads (pos (suc v)) z (rw e) s k w
@@ -230,7 +281,8 @@ module _ (fits : ℕ → Bool) (small : (d : ℕ) → d < 10 → fits d ≡ true
       go : (x : Bool) → eqb b 45 ≡ x → (y : Bool) → eqb b 48 ≡ y → Out signed Number numberN Ends (b ∷ t) (number fits (b ∷ t))
       go true e y f = rw (e, number) (minus (positive fits (λ r. stop 4 (b ∷ t)) t) (positive-out fits (λ r. stop 4 (b ∷ t)) small t) (eqb-true b 45 e))
       go false e true f = let i = eqb-true b 48 f in rw i (reads (pos 0) t refl refl (small 0 (omega arith)) tt)
-      go false e false f = rw (e, f, number) (plain (positive fits (λ r. stop 4 (b ∷ t)) (b ∷ t)) (positive-out fits (λ r. stop 4 (b ∷ t)) small (b ∷ t)) (eqb-false b 45 e) (eqb-false b 48 f))
+      go false e false f = rw (e, f, number) (plain (positive fits (λ r. stop 4 (b ∷ t)) (b ∷ t)) (positive-out fits (λ r. stop 4 (b ∷ t)) small (b ∷ t))
+          (eqb-false b 45 e) (eqb-false b 48 f))
 
 -- ---- the (bytes "again ") of a form: fixed bytes, a count, a space
 
@@ -246,23 +298,45 @@ countSpace = both {B = Unit {0}} (λ n u. n) natural Count countN Stopped (λ u.
 
 count-space : Joins {B = Unit {0}} (λ n u. n) natural Count countN Stopped (λ u. 32 ∷ []) always (wordN (32 ∷ [])) Any (λ n. natural n ++ (32 ∷ [])) Count Any
 unfolding Stops
-count-space = record { spell = λ n u. refl; valid = λ n u v w. v; after = λ n u z f. tt; next = λ n u z v. refl; keeps = λ n p b r y h. stops-keeps p b r y h; some = tt; good = tt; complete = count-complete }
+count-space = record {
+  spell = λ n u. refl;
+  valid = λ n u v w. v;
+  after = λ n u z f. tt;
+  next = λ n u z v. refl;
+  keeps =
+      λ n p b r y h. stops-keeps p b r y h;
+  some = tt;
+  good = tt;
+  complete = count-complete;
+}
 
 countSpace-complete : Complete (λ n. natural n ++ (32 ∷ [])) Count countSpace Any
 unfolding Complete
 countSpace-complete n z m v f l =
-    both-complete (λ n u. n) natural Count countN Stopped (λ u. 32 ∷ []) always (wordN (32 ∷ [])) Any (λ n. natural n ++ (32 ∷ [])) Count Any count-space (word-complete (32 ∷ [])) n tt z m v tt tt l
+    both-complete (λ n u. n) natural Count countN Stopped (λ u. 32 ∷ []) always (wordN (32 ∷ [])) Any (λ n. natural n ++ (32 ∷ [])) Count Any count-space
+    (word-complete (32 ∷ [])) n tt z m v tt tt l
 
 countSpace-out : (n : ℕ) (t : List ℕ) → Out (λ n. natural n ++ (32 ∷ [])) Count countSpace Any t (countSpace n t)
 countSpace-out n t =
-    both-out (λ n u. n) natural Count countN Stopped (λ u. 32 ∷ []) always (wordN (32 ∷ [])) Any (λ n. natural n ++ (32 ∷ [])) Count Any count-space n t (count-out t) (λ t1 l. word-out (32 ∷ []) t1)
+    both-out (λ n u. n) natural Count countN Stopped (λ u. 32 ∷ []) always (wordN (32 ∷ [])) Any (λ n. natural n ++ (32 ∷ [])) Count Any count-space n t
+    (count-out t) (λ t1 l. word-out (32 ∷ []) t1)
 
 -- the fixed bytes before
 abbrev headBoth : ℕ → List ℕ → Read ℕ
 headBoth = both (λ u n. n) (λ u. (bytes "again ")) always (wordN (bytes "again ")) Any (λ n. natural n ++ (32 ∷ [])) Count countSpace Any spellHead Count Any
 
 head-joins : Joins (λ u n. n) (λ u. (bytes "again ")) always (wordN (bytes "again ")) Any (λ n. natural n ++ (32 ∷ [])) Count countSpace Any spellHead Count Any
-head-joins = record { spell = λ u n. refl; valid = λ u n v w. w; after = λ u n z f. tt; next = λ u n z v. tt; keeps = λ u p b r y h. tt; some = 1; good = omega arith; complete = word-complete (bytes "again ") }
+head-joins = record {
+  spell = λ u n. refl;
+  valid = λ u n v w. w;
+  after = λ u n z f. tt;
+  next = λ u n z v. tt;
+  keeps = λ u p b r y h. tt;
+  some = 1;
+  good =
+      omega arith;
+  complete = word-complete (bytes "again ");
+}
 
 head-same : (m : ℕ) (t : List ℕ) → headBoth m t ≡ head t
 unfolding head then
@@ -276,10 +350,12 @@ pub head-complete : Complete spellHead Count headN Any
 unfolding Complete
 head-complete =
     same-complete spellHead Count headBoth headN Any head-same
-    (λ n z m v f l. both-complete (λ u n. n) (λ u. (bytes "again ")) always (wordN (bytes "again ")) Any (λ n. natural n ++ (32 ∷ [])) Count countSpace Any spellHead Count Any head-joins countSpace-complete tt n z m tt v tt l)
+    (λ n z m v f l. both-complete (λ u n. n) (λ u. (bytes "again ")) always (wordN (bytes "again ")) Any (λ n. natural n ++ (32 ∷ [])) Count countSpace Any
+    spellHead Count Any head-joins countSpace-complete tt n z m tt v tt l)
 
 pub head-out : (t : List ℕ) → Out spellHead Count headN Any t (head t)
 head-out t =
     rw (← head-same 0 t)
     (same-out spellHead Count headBoth headN Any head-same t (headBoth 0 t)
-    (both-out (λ u n. n) (λ u. (bytes "again ")) always (wordN (bytes "again ")) Any (λ n. natural n ++ (32 ∷ [])) Count countSpace Any spellHead Count Any head-joins 0 t (word-out (bytes "again ") t) (λ t1 l. countSpace-out 0 t1)))
+    (both-out (λ u n. n) (λ u. (bytes "again ")) always (wordN (bytes "again ")) Any (λ n. natural n ++ (32 ∷ [])) Count countSpace Any spellHead Count Any
+    head-joins 0 t (word-out (bytes "again ") t) (λ t1 l. countSpace-out 0 t1)))

@@ -9,7 +9,7 @@ use native.Mathlib.Numerals.{add-one}
 use native.Mathlib.Nat.{suc-mul, mul-le-mul}
 use lib.IntN.{ℤ, pos}
 use lib.Dec.{leb}
-use lib.ListN.{length, take, drop, getD, set, length-append, length-take, length-drop, take-append-drop, drop-of-length-le, List·getD-append}
+use lib.ListN.{length, take, drop, getD, set, length-append, length-drop, take-append-drop, drop-of-length-le, List·getD-append}
 use lib.Seq.{
   drop-append-add,
   take-all,
@@ -20,14 +20,12 @@ use lib.Seq.{
   set-at,
   set-split,
   getD-append-add,
-  getD-at,
   take-append-add,
   drop-at,
   length-take-le,
   take-append-le,
   getD-take,
   drop-drop,
-  append-snoc,
 }
 use borrow.Author.Tests.{leb-true, leb-false}
 use Rattle.rules.specs.SheetAnswers.{times}

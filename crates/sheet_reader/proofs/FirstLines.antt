@@ -1,16 +1,15 @@
 -- The order and the range, one number after the other. Assumes nothing.
-use mathlib.Core.Path.{_≡_, sym, ap, subst, _∙_}
+use mathlib.Core.Path.{_≡_, sym, subst}
 use mathlib.Core.List.{List, []}
 use Prim.{tt}
-use Prim.Native.Nat.{ℕ, suc, _+_, _^_, _≤_, _<_}
+use Prim.Native.Nat.{ℕ, _+_, _≤_}
 use native.Mathlib.Omega.{arith}
-use lib.IntN.{ℤ, natAbs}
+use lib.IntN.{ℤ}
 use lib.ListN.{length, drop, length-append}
 use Rattle.rules.specs.Sheets.{bytes, heading, range, signed, spellRange, spellHeading, within, below4}
 use Rattle.rules.specs.SheetReading as reading
 use Rattle.sheet_laws.proofs.Words.{Number, numberN, Ends, number-out}
 use Rattle.sheet_laws.proofs.Limits.{within-small, within-shorter, spelled}
-use Rattle.sheet_record.specs.Held.{Near}
 use Rattle.sheet_numbers.specs.declared.Whole.{Whole}
 use Rattle.sheet_numbers.specs.declared.Whole.the-variants as whole
 use Rattle.sheet_numbers.specs.Says.{wholeOf, WholeInside, WholeSmall}
@@ -27,7 +26,7 @@ use Rattle.sheet_axis.proofs.Joins.{
   pair-stops,
 }
 use Rattle.sheet_reader.specs.declared.HeadingRead.the-variants as headingRead
-use Rattle.sheet_reader.specs.Says.{ledNumber, NumberTo, NumberSays, HeadingTo, HeadingSays}
+use Rattle.sheet_reader.specs.Says.{ledNumber, NumberTo, NumberSays, HeadingSays}
 
 -- fixed bytes, and the number after them
 module _ (text w : List ℕ) (from : ℕ) (h : from ≤ length text) (mid : ℕ) (u : Reads (wordAt w) text from tt mid) where

@@ -3,33 +3,14 @@ use Prim.{Unit, tt}
 use mathlib.Core.Path.{_≡_, refl, sym, ap, ap₂, subst, _∙_}
 use mathlib.Core.Bool.{Bool, true, false}
 use mathlib.Core.List.{List, [], _∷_, _++_}
-use Prim.Native.Nat.{ℕ, zero, suc, _+_, _-_, _≤_, _<_}
+use Prim.Native.Nat.{ℕ, suc, _-_, _≤_, _<_}
 use native.Mathlib.Omega.{arith}
 use lib.IntN.{ℤ}
 use lib.ListN.{length, take, drop, length-drop, length-take, drop-of-length-le}
-use lib.Dec.{leb, ltb, eqb}
-use borrow.Author.Tests.{le-leb, lt-leb, leb-true}
+use lib.Dec.{ltb, eqb}
+use borrow.Author.Tests.{le-leb, lt-leb}
 use Rattle.rules.specs.declared.SheetPlace.{SheetPlace}
-use Rattle.rules.specs.Sheets.{
-  Items,
-  one,
-  more,
-  States,
-  states,
-  Axis,
-  axis,
-  Axes,
-  only,
-  next,
-  Heading,
-  heading,
-  range,
-  Sheet,
-  sheet,
-  spellHeading,
-  within,
-  below4,
-}
+use Rattle.rules.specs.Sheets.{Items, one, more, states, Axis, axis, Axes, only, next, heading, range, Sheet, sheet, within, below4}
 use Rattle.rules.specs.SheetReading as reading
 use Rattle.rules.specs.SheetFaults.{
   Refusal,
@@ -43,17 +24,13 @@ use Rattle.rules.specs.SheetFaults.{
   axesSizes,
   firstCount,
   sizes,
-  Judged,
-  readable,
   refused,
   sized,
   longest,
   judge,
 }
-use Rattle.sheet_record.specs.declared.SheetNumbers.{SheetNumbers}
-use Rattle.sheet_record.specs.Held.{ReadOf}
 use Rattle.sheet_numbers.proofs.Steps.{kept, near-kept}
-use Rattle.sheet_axis.specs.Says.{Reads, Stops, placeOf}
+use Rattle.sheet_axis.specs.Says.{Stops, placeOf}
 use Rattle.sheet_axis.proofs.Joins.{pair-fails, pair-reads, pair-stops}
 use Rattle.sheet_axes.specs.declared.AxesSizes.{AxesSizes}
 use Rattle.sheet_axes.specs.declared.AxesRead.{AxesRead}
@@ -63,7 +40,6 @@ use Rattle.sheet_reader.specs.declared.HeadingRead.{HeadingRead}
 use Rattle.sheet_reader.specs.declared.HeadingRead.the-variants as headingRead
 use Rattle.sheet_reader.specs.declared.WholeRead.{WholeRead}
 use Rattle.sheet_reader.specs.declared.WholeRead.the-variants as wholeRead
-use Rattle.sheet_reader.specs.declared.SheetRead.{SheetRead}
 use Rattle.sheet_reader.specs.declared.SheetRead.the-variants as sheetRead
 use Rattle.sheet_reader.specs.Says.{HeadingTo, HeadingSays, WholeSays, answerOf, cutOf, SheetSays}
 

@@ -7,7 +7,6 @@ use lib.ListN.{length, drop}
 use Rattle.rules.specs.Sheets.{Sheet, heading, range, signed, spellHeading, within, below4}
 use Rattle.rules.specs.SheetReading as reading
 use Rattle.rules.specs.SheetFaults.{Refusal, refusal, sizes, Judged, readable, refused, longest}
-use Rattle.sheet_record.specs.declared.SheetNumbers.{SheetNumbers}
 use Rattle.sheet_record.specs.Held.{Near, ReadOf}
 use Rattle.sheet_numbers.specs.declared.Whole.{Whole}
 use Rattle.sheet_numbers.specs.declared.Whole.the-variants as whole

@@ -2,7 +2,7 @@
 use mathlib.Core.Path.{_≡_, refl, sym, ap, subst, _∙_}
 use mathlib.Core.Bool.{Bool, true, false}
 use mathlib.Core.List.{List, [], _∷_, _++_, append-nil}
-use Prim.Native.Nat.{ℕ, suc, _+_, _-_, _*_, _^_, _<_, _≤_}
+use Prim.Native.Nat.{ℕ, suc, _-_, _<_, _≤_}
 use native.Mathlib.Omega.{arith}
 use lib.ListN.{length, take}
 use lib.Dec.{leb}
@@ -11,14 +11,9 @@ use Rattle.rules.specs.Sheets.{Sheet, spellSheet, unlimited, within, below4, Fr
 use Rattle.rules.specs.SheetReading.{Read, got, stop, readSheet, sheetOf}
 use Rattle.rules.specs.SheetFaults.{Refusal, refusal, readable, refused, sizes, sized, longest, judge}
 use Rattle.sheet_laws.proofs.Exact.{Out, reads, faults, other, Complete}
+use Rattle.sheet_laws.proofs.Limits.{within-small, within-shorter}
 use Rattle.theorem_sheets.specs.Sheets.{AcceptedAreSheets, JudgedAreSheets, OneReading}
 use Rattle.theorem_sheets.proofs.Whole.{Exactly, Last, sheet-exact}
-
-pub within-small : (d : ℕ) → d < 10 → within d ≡ true
-within-small d h = le-leb d (2 ^ 40) (omega arith)
-
-pub within-shorter : (n d : ℕ) → within (n * 10 + d) ≡ true → within n ≡ true
-within-shorter n d e = le-leb n (2 ^ 40) (let h = leb-true (n * 10 + d) (2 ^ 40) e in omega arith)
 
 pub free-exact : Exactly spellSheet Free (readSheet unlimited unlimited) (readSheet unlimited unlimited) Last
 free-exact = sheet-exact unlimited unlimited (λ d h. refl) (λ n d h. refl)

@@ -86,21 +86,12 @@ use Rattle.rules.specs.SheetFaults.{
   beyondHeading,
   beyondSheet,
 }
-use Rattle.sheet_laws.proofs.Decimal.{natural-more, is-digit, first-bounds, Stops, digits-over, positive-reads}
+use Rattle.sheet_laws.proofs.Decimal.{natural-tenth, is-digit, first-bounds, Stops, digits-over, positive-reads}
 use Rattle.sheet_laws.proofs.Exact.{Complete, Any, Joins}
 use Rattle.sheet_laws.proofs.Words.{always, wordN, word-complete, Ends, Number, number-complete, spellHead, head-complete}
-use Rattle.sheet_laws.proofs.Items.{ItemEnds, itemN, itemsN}
-use Rattle.theorem_sheets.proofs.LimitItems.{
-  natural-first,
-  plain-first,
-  stops-item,
-  item-bytes,
-  item-deep,
-  item-form,
-  items-stop,
-  items-one,
-  items-more,
-}
+use Rattle.sheet_laws.proofs.Steps.{ItemEnds, stops-item, itemsN, itemN, item-bytes, item-deep, item-form, items-stop, items-one, items-more}
+use Rattle.sheet_laws.proofs.Limits.{within-small, within-shorter}
+use Rattle.theorem_sheets.proofs.LimitItems.{natural-first, plain-first}
 use Rattle.theorem_sheets.proofs.Whole.{
   Last,
   ledList,
@@ -121,7 +112,6 @@ use Rattle.theorem_sheets.proofs.Whole.{
   axes-stop,
   axes-first,
 }
-use Rattle.theorem_sheets.proofs.Claims.{within-small, within-shorter}
 
 -- a is spelled at place p of a text, with t from there on and z after it; xs is what in it is beyond the limits: nothing, and x is a; or x stops with the
 -- first, at its place
@@ -206,15 +196,13 @@ positive-beyond (suc f) v l h s z =
         → positive within (λ r. stop 4 s) (natural v ++ z) ≡ stop 4 s
     go b j r =
         let big = leb-false v (2 ^ 40) h in
-        let e : v / 10 * 10 + v % 10 ≡ v = omega arith in
-        let n : natural v ≡ natural (v / 10) ++ ((48 + v % 10) ∷ []) = sym (ap natural e) ∙ natural-more (v / 10) (v % 10) (omega arith) (omega arith) in
-        ap (λ l. positive within (λ r. stop 4 s) (l ++ z)) n
+        ap (λ l. positive within (λ r. stop 4 s) (l ++ z)) (natural-tenth v (omega arith))
         ∙ ap (positive within (λ r. stop 4 s)) (append-assoc (natural (v / 10)) ((48 + v % 10) ∷ []) z)
-        ∙ on b j (e ∙ refl)
+        ∙ on b j
       where
-        on : (b : Bool) → within (v / 10) ≡ b → v / 10 * 10 + v % 10 ≡ v → positive within (λ r. stop 4 s) (natural (v / 10) ++ ((48 + v % 10) ∷ z)) ≡ stop 4 s
-        on false i e = r i ((48 + v % 10) ∷ z)
-        on true i e =
+        on : (b : Bool) → within (v / 10) ≡ b → positive within (λ r. stop 4 s) (natural (v / 10) ++ ((48 + v % 10) ∷ z)) ≡ stop 4 s
+        on false i = r i ((48 + v % 10) ∷ z)
+        on true i =
             let big = leb-false v (2 ^ 40) h in
             let c : v / 10 * 10 + (48 + v % 10 - 48) ≡ v = omega arith in
             positive-reads within (λ r. stop 4 s) within-shorter (v / 10) (omega arith) i ((48 + v % 10) ∷ z)

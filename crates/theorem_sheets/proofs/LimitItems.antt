@@ -9,7 +9,7 @@ use lib.IntN.{pos}
 use lib.ListN.{length, length-append}
 use lib.Dec.{eqb}
 use borrow.Author.Tests.{le-leb, eqb-true, eqb-false, ne-eqb}
-use Rattle.rules.specs.Sheets.{bytes, Item, Items, whole, again, one, more, natural, signed, spellItem, spellItems, ValidItem, ValidItems, unlimited}
+use Rattle.rules.specs.Sheets.{bytes, Item, whole, again, one, more, natural, signed, spellItem, spellItems, ValidItem, ValidItems, unlimited}
 use Rattle.rules.specs.SheetReading.{
   Read,
   got,
@@ -26,7 +26,6 @@ use Rattle.rules.specs.SheetReading.{
   head,
   form,
   item,
-  after,
   items,
 }
 use Rattle.sheet_laws.proofs.Decimal.{Stops, first-bounds, digits-byte, digits-over, positive-reads, ended as finished, passed}
@@ -38,9 +37,9 @@ use Rattle.sheet_laws.proofs.Words.{
   positive-none,
   positive-out,
   Ends,
-  stops-ends,
   Number,
   numberN,
+  number-complete,
   number-out,
   Count,
   spellHead,
@@ -48,8 +47,24 @@ use Rattle.sheet_laws.proofs.Words.{
   head-complete,
   head-out,
 }
-use Rattle.sheet_laws.proofs.Items.{ItemEnds, itemN, itemsN, item-complete}
-use Rattle.sheet_laws.proofs.Earliest.{rest, then-short, head-short, items-short, alike, sooner, Earlier, number-earlier}
+use Rattle.sheet_laws.proofs.Steps.{
+  ItemEnds,
+  stops-item,
+  itemsN,
+  itemN,
+  item-bytes,
+  item-same,
+  item-deep,
+  item-opens,
+  item-form,
+  items-stop,
+  items-one,
+  items-more,
+  items-end,
+  items-other,
+}
+use Rattle.sheet_laws.proofs.Items.{item-complete}
+use Rattle.sheet_laws.proofs.Short.{rest, then-short, head-short, after-short, items-short}
 use Rattle.theorem_sheets.proofs.Limits.{Fine, fine-then, word-fine, Limit, fromLimit, ended, moved, Beside, agree, fail, limits}
 
 -- nothing is both
@@ -84,6 +99,12 @@ natural-first v h = go (natural v) refl
         on true i = (c, r, e, i)
         on false i =
             absurd (clash (sym all ∙ ap (λ x. positive unlimited (λ r. stop 4 r) (x ++ [])) e ∙ positive-none unlimited (λ r. stop 4 r) c (r ++ []) i))
+
+-- no positive number begins here
+positive-no : (over : List ℕ → Read ℕ) (t : List ℕ) → ((c : ℕ) (r : List ℕ) → t ≡ c ∷ r → isFirst c ≡ false) → positive unlimited over t ≡ stop 600 t
+unfolding positive
+positive-no over [] f = refl
+positive-no over (c ∷ r) f = positive-none unlimited over c r (f c r refl)
 
 -- ---- numbers
 
@@ -141,43 +162,45 @@ module _ (fits : ℕ → Bool) (small : (d : ℕ) → d < 10 → fits d ≡ true
           ∙ rw (subst (λ l. positive fits (λ q. stop 4 x) l ≡ stop 4 x) (ap (λ l. (l ++ (c ∷ [])) ++ y) e) (positive-passed x y));
     }
 
-  number-limit : (t : List ℕ) (k : ℕ) (r : List ℕ) → number fits t ≡ stop k r → (k ≡ 600 → ⊥)
-      → Limit (numberN fits small shorter) t (rest (number unlimited t))
+  abbrev NumberBeside : List ℕ → Type 0
+  NumberBeside t = Beside signed (Number fits small shorter) (numberN fits small shorter) Ends t (number fits t) (number unlimited t)
+
+  -- where the reading with limits stops
+  number-stops : (t : List ℕ) (k : ℕ) (r : List ℕ) → number fits t ≡ stop k r → NumberBeside t
   unfolding number then
-  number-limit [] k r e n = absurd (n (cc))
-  number-limit (b ∷ t) k r e n = go (eqb b 45) refl (eqb b 48) refl
+  number-stops [] k r e = fail [] refl refl
+  number-stops (b ∷ t) k r e = go (eqb b 45) refl (eqb b 48) refl
     where
-      minus : PositiveOut fits t (λ r. stop 4 (45 ∷ t)) (positive fits (λ r. stop 4 (45 ∷ t)) t) → number fits (45 ∷ t) ≡ stop k r
-          → Limit (numberN fits small shorter) (45 ∷ t) (rest (number unlimited (45 ∷ t)))
-      minus (none p f) e = let q : stop 600 t ≡ stop k r = rw p at e in absurd (n (cc))
+      minus : PositiveOut fits t (λ r. stop 4 (45 ∷ t)) (positive fits (λ r. stop 4 (45 ∷ t)) t) → number fits (45 ∷ t) ≡ stop k r → NumberBeside (45 ∷ t)
+      minus (none p f) e = fail t (rw p) (rw (positive-no (λ r. stop 4 (45 ∷ t)) t f))
       minus (some (finished v z p s h f w)) e = absurd (clash (rw p at e))
-      minus (some (passed v c z p s h f d big)) e = minus-limit v c h f d big z t s
+      minus (some (passed v c z p s h f d big)) e = limits (minus-limit v c h f d big z t s)
 
-      plain : PositiveOut fits (b ∷ t) (λ r. stop 4 (b ∷ t)) (positive fits (λ r. stop 4 (b ∷ t)) (b ∷ t))
-          → then (positive fits (λ r. stop 4 (b ∷ t)) (b ∷ t)) (λ n rest. got (pos n) rest) ≡ stop k r
-          → Limit (numberN fits small shorter) (b ∷ t) (rest (number unlimited (b ∷ t)))
-      plain (none p f) e = let q : stop 600 (b ∷ t) ≡ stop k r = rw p at e in absurd (n (cc))
-      plain (some (finished v z p s h f w)) e = absurd (clash (rw p at e))
-      plain (some (passed v c z p s h f d big)) e = let x = natural-first v h in plain-limit v c h f d big z (b ∷ t) s (x .0) (x .1) (x .2) (x .3)
+      plain : eqb b 45 ≡ false → eqb b 48 ≡ false → PositiveOut fits (b ∷ t) (λ r. stop 4 (b ∷ t)) (positive fits (λ r. stop 4 (b ∷ t)) (b ∷ t))
+          → then (positive fits (λ r. stop 4 (b ∷ t)) (b ∷ t)) (λ n rest. got (pos n) rest) ≡ stop k r → NumberBeside (b ∷ t)
+      plain i j (none p f) e = fail (b ∷ t) (rw (i, j, number) (rw p)) (rw (i, j, number) (rw (positive-no (λ r. stop 4 (b ∷ t)) (b ∷ t) f)))
+      plain i j (some (finished v z p s h f w)) e = absurd (clash (rw p at e))
+      plain i j (some (passed v c z p s h f d big)) e =
+          let x = natural-first v h in limits (plain-limit v c h f d big z (b ∷ t) s (x .0) (x .1) (x .2) (x .3))
 
-      go : (x : Bool) → eqb b 45 ≡ x → (y : Bool) → eqb b 48 ≡ y → Limit (numberN fits small shorter) (b ∷ t) (rest (number unlimited (b ∷ t)))
+      go : (x : Bool) → eqb b 45 ≡ x → (y : Bool) → eqb b 48 ≡ y → NumberBeside (b ∷ t)
       go true i y j =
           let w = sym (eqb-true b 45 i) in
-          subst (λ a. Limit (numberN fits small shorter) (a ∷ t) (rest (number unlimited (a ∷ t)))) w
+          subst (λ a. NumberBeside (a ∷ t)) w
           (minus (positive-out fits (λ r. stop 4 (45 ∷ t)) small t) (subst (λ a. number fits (a ∷ t) ≡ stop k r) (sym w) e))
       go false i true j = absurd (clash (rw (i, j, number) at e))
-      go false i false j = plain (positive-out fits (λ r. stop 4 (b ∷ t)) small (b ∷ t)) (rw (i, j, number) at e)
+      go false i false j = plain i j (positive-out fits (λ r. stop 4 (b ∷ t)) small (b ∷ t)) (rw (i, j, number) at e)
 
-  pub number-beside : (t : List ℕ) → Beside signed (Number fits small shorter) (numberN fits small shorter) Ends t (number fits t) (number unlimited t)
-  number-beside t = go (number-out fits small shorter t) (number-earlier fits unlimited unlimited unlimited (λ n h. refl) (λ d h. refl) t)
+  pub number-beside : (t : List ℕ) → NumberBeside t
+  unfolding Number Complete
+  number-beside t = go (number-out fits small shorter t)
     where
-      go : Out signed (Number fits small shorter) (numberN fits small shorter) Ends t (number fits t) → Earlier (number fits t) (number unlimited t)
-          → Beside signed (Number fits small shorter) (numberN fits small shorter) Ends t (number fits t) (number unlimited t)
-      go (reads a z e s v f) (alike i) = agree a z e (sym i ∙ e) s v f
-      go (reads a z e s v f) (sooner k r i n l) = absurd (clash (sym e ∙ i))
-      go (faults z e f) (alike i) = fail z e (sym i ∙ e)
-      go (faults z e f) (sooner k r i n l) = absurd (n (cc))
-      go (other k z e n) w = limits (number-limit t k z e n)
+      go : Out signed (Number fits small shorter) (numberN fits small shorter) Ends t (number fits t) → NumberBeside t
+      go (reads a z e s v f) =
+          agree a z e
+          (ap (number unlimited) s ∙ number-complete unlimited (λ d h. refl) (λ n d h. refl) a z (suc (length (signed a ++ z))) refl f (omega arith)) s v f
+      go (faults z e f) = number-stops t 600 z e
+      go (other k z e n) = number-stops t k z e
 
 -- ---- the head of a form has no limits
 
@@ -195,71 +218,6 @@ unfolding head Fine
 head-fine t =
     fine-then (word (bytes "again ") t) _ (word-fine (bytes "again ") t) (λ u t1.
     fine-then (count t1) _ (count-fine t1) (λ n t2. fine-then (word (bytes " ") t2) _ (word-fine (bytes " ") t2) (λ u t3. tt)))
-
--- ---- one step
-
-pub stops-item : (it : Item) (z : List ℕ) → Stops z → ItemEnds it z
-unfolding ItemEnds
-stops-item (whole z) t h = stops-ends z t h
-stops-item (again n items) t h = tt
-
-module _ (fits : ℕ → Bool) (opens : ℕ → Bool) where
-  module _ (inner : List ℕ → Read Items) (d : ℕ) where
-    pub item-bytes : (b : ℕ) (t : List ℕ) → (b ≡ 40 → ⊥) → item fits opens inner d (b ∷ t) ≡ then (number fits (b ∷ t)) (λ z rest. got (whole z) rest)
-    unfolding item
-    item-bytes b t h = rw (ne-eqb b 40 h, item)
-
-    pub item-deep : (t : List ℕ) → opens d ≡ false → item fits opens inner d (40 ∷ t) ≡ stop 601 (40 ∷ t)
-    unfolding item
-    item-deep t o = rw o
-
-    pub item-opens : (t : List ℕ) → opens d ≡ true → item fits opens inner d (40 ∷ t) ≡ form fits opens inner t
-    unfolding item
-    item-opens t o = rw o
-
-    pub item-form : (n : ℕ) (t t1 : List ℕ) → opens d ≡ true → head t ≡ got n t1
-        → item fits opens inner d (40 ∷ t) ≡ then (inner t1) (λ its t2. got (again n its) t2)
-    unfolding form then
-    item-form n t t1 o e = item-opens t o ∙ rw e
-
-  module _ (m d : ℕ) (t : List ℕ) where
-    pub items-stop : (k : ℕ) (z : List ℕ) → itemN fits opens d (suc m) t ≡ stop k z → itemsN fits opens d (suc m) t ≡ stop k z
-    unfolding items then
-    items-stop k z e = rw e
-
-    pub items-step : (it : Item) (z : List ℕ) → itemN fits opens d (suc m) t ≡ got it z
-        → itemsN fits opens d (suc m) t ≡ after fits opens (λ r. itemsN fits opens d m r) it z
-    unfolding items then
-    items-step it z e = rw e
-
-    pub items-one : (it : Item) (z : List ℕ) → itemN fits opens d (suc m) t ≡ got it (41 ∷ z) → itemsN fits opens d (suc m) t ≡ got (one it) z
-    unfolding after
-    items-one it z e = items-step it (41 ∷ z) e
-
-    pub items-more : (it : Item) (z : List ℕ) → itemN fits opens d (suc m) t ≡ got it (32 ∷ z)
-        → itemsN fits opens d (suc m) t ≡ then (itemsN fits opens d m z) (λ its rest. got (more it its) rest)
-    unfolding after
-    items-more it z e = items-step it (32 ∷ z) e
-
-    items-end : (it : Item) → itemN fits opens d (suc m) t ≡ got it [] → itemsN fits opens d (suc m) t ≡ stop 600 []
-    unfolding after
-    items-end it e = items-step it [] e
-
-    items-other : (it : Item) (b : ℕ) (z : List ℕ) → eqb b 41 ≡ false → eqb b 32 ≡ false → itemN fits opens d (suc m) t ≡ got it (b ∷ z)
-        → itemsN fits opens d (suc m) t ≡ stop 600 (b ∷ z)
-    unfolding after
-    items-other it b z h k e = items-step it (b ∷ z) e ∙ rw (h, k, after)
-
-  after-short : (others : List ℕ → Read Items) → ((t : List ℕ) → length (rest (others t)) ≤ length t) → (i : Item) (t : List ℕ)
-      → length (rest (after fits opens others i t)) ≤ length t
-  unfolding after
-  after-short f h i [] = omega arith
-  after-short f h i (b ∷ t) = go (eqb b 41) refl (eqb b 32) refl
-    where
-      go : (x : Bool) → eqb b 41 ≡ x → (y : Bool) → eqb b 32 ≡ y → length (rest (after fits opens f i (b ∷ t))) ≤ length (b ∷ t)
-      go true e y k = rw (e, after) (omega arith)
-      go false e true k = rw (e, k, after) (then-short (length (b ∷ t)) (f t) _ (let j = h t in omega arith) (λ a z. omega arith))
-      go false e false k = rw (e, k, after) (omega arith)
 
 -- ---- items and lists
 
@@ -284,13 +242,7 @@ module _ (fits : ℕ → Bool) (opens : ℕ → Bool) (small : (d : ℕ) → d <
         limits (moved l [] refl
         (rw (item-bytes unlimited unlimited (λ r. itemsN unlimited unlimited (suc d) n r) d b t h)
         (then-short (length (l .after)) (number unlimited (b ∷ t)) _ (l .further) (λ a y. omega arith)))
-        (λ m y k. same _ (l .before) (l .first) (l .middle ++ l .after) (l .middle ++ y) (l .split) ∙ rw (l .stops m y k)))
-      where
-        -- the first byte of a text with another end
-        same : (inner : List ℕ → Read Items) (p : List ℕ) (c : ℕ) (r y : List ℕ) → b ∷ t ≡ p ++ (c ∷ r)
-            → item fits opens inner d (p ++ (c ∷ y)) ≡ then (number fits (p ++ (c ∷ y))) (λ z rest. got (whole z) rest)
-        same inner [] c r y e = let i : b ≡ c = cc in item-bytes fits opens inner d c y (λ j. h (i ∙ j))
-        same inner (x ∷ p) c r y e = let i : b ≡ x = cc in item-bytes fits opens inner d x (p ++ (c ∷ y)) (λ j. h (i ∙ j))
+        (λ m y k. item-same fits opens _ d b (l .first) t (l .before) (l .middle ++ l .after) (l .middle ++ y) h (l .split) ∙ rw (l .stops m y k)))
 
     -- a bracket that may not open
     item-closed : opens d ≡ false → ItemBeside (suc n) d (40 ∷ t)

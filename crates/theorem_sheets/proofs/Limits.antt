@@ -11,7 +11,7 @@ use lib.Dec.{eqb}
 use Rattle.rules.specs.SheetReading.{Read, got, stop, then, word, lead, pair}
 use Rattle.sheet_laws.proofs.Exact.{Out, reads, faults, other, Complete, Any, Joins}
 use Rattle.sheet_laws.proofs.Words.{always, wordN, word-complete, word-out}
-use Rattle.sheet_laws.proofs.Earliest.{rest, then-short, word-short}
+use Rattle.sheet_laws.proofs.Short.{rest, then-short, word-short}
 
 -- a value, or 600
 unfoldable pub Fine : {A : Type 0} → Read A → Type 0

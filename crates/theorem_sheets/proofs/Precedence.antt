@@ -13,7 +13,7 @@ use Rattle.rules.specs.Sheets.{Sheet, spellSheet, unlimited, within, below4, Fr
 use Rattle.rules.specs.SheetReading.{Read, got, stop, readSheet, sheetOf}
 use Rattle.rules.specs.SheetFaults.{Refusal, refusal, beyondSheet, Dead, Passed, FirstOfThree, readable, refused, sizes, sized, longest, judge}
 use Rattle.sheet_laws.proofs.Exact.{Out, reads, faults, other}
-use Rattle.sheet_laws.proofs.Earliest.{rest}
+use Rattle.sheet_laws.proofs.Short.{rest}
 use Rattle.theorem_sheets.specs.Sheets.{FirstOfThreeIsFound, FirstOfThreeIsOne, SizesAreEarliest, RefusalsAreEarliest}
 use Rattle.theorem_sheets.proofs.Limits.{Limit, Beside, agree, fail, limits}
 use Rattle.theorem_sheets.proofs.LimitItems.{clash}

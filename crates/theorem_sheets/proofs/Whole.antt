@@ -65,7 +65,7 @@ use Rattle.sheet_laws.proofs.Decimal.{Stops}
 use Rattle.sheet_laws.proofs.Exact.{Fault, Out, reads, faults, other, Complete, Any, Joins, both-complete, both-out}
 use Rattle.sheet_laws.proofs.Words.{always, wordN, word-complete, word-out, Ends, stops-ends, ends-keeps, Number, number-complete, number-out}
 use Rattle.sheet_laws.proofs.Items.{items-complete, items-out}
-use Rattle.sheet_laws.proofs.Earliest.{then-short, word-short, number-short, items-short}
+use Rattle.sheet_laws.proofs.Short.{then-short, word-short, number-short, items-short}
 use Rattle.theorem_sheets.proofs.Limits.{
   Short,
   ended,

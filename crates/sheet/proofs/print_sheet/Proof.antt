@@ -1,9 +1,6 @@
 -- `sheet::print_sheet` meets its contract: refused where a buffer is too short, else built and printed. Assumes nothing.
-use mathlib.Core.Path.{_≡_, refl, sym, ap, subst, _∙_}
-use Prim.Native.Nat.{ℕ, _≤_}
 use native.Mathlib.Omega.{arith}
 use borrow.Author.Needs.{needs}
-use lib.ListN.{length}
 use Rattle.sheet.proofs.Printed.{too-few-cells, too-few-bytes, printed, may-print}
 use Rattle.sheet.proofs.print_sheet.Statement.{statement}
 use Rattle.sheet.proofs.print_sheet.Tie as tie

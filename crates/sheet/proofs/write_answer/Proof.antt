@@ -1,5 +1,5 @@
 -- `sheet::write_answer` meets its contract: by the number. Assumes nothing.
-use mathlib.Core.Path.{_≡_, refl, sym, ap, _∙_}
+use mathlib.Core.Path.{sym}
 use native.Mathlib.Nat.{mul-le-mul}
 use native.Mathlib.Omega.{arith}
 use Prim.Native.Nat.{_+_, _*_, _≤_}

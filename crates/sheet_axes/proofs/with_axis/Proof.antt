@@ -1,5 +1,4 @@
 -- `sheet_axes::with_axis` meets its contract: field by field. Assumes nothing.
-use mathlib.Core.Path.{_≡_, ap, _∙_}
 use borrow.Author.Needs.{needs}
 use Rattle.sheet_axes.specs.Says.{withAxis}
 use Rattle.sheet_axes.proofs.with_axis.Statement.{statement}

@@ -1,7 +1,5 @@
 -- `sheet_axis::led` meets its contract: the fixed bytes, and then the list. Assumes nothing.
 use borrow.Author.Needs.{needs}
-use mathlib.Core.List.{List}
-use Prim.Native.Nat.{ℕ}
 use native.Mathlib.Omega.{arith}
 use Rattle.sheet_numbers.proofs.Steps.{passed-inside}
 use Rattle.sheet_axis.specs.Says.{ListSays}

@@ -1,5 +1,5 @@
 -- `sheet_puts::push` meets its contract. Assumes nothing.
-use mathlib.Core.Path.{_≡_, refl, sym, ap, _∙_}
+use mathlib.Core.Path.{ap, _∙_}
 use native.Mathlib.Omega.{arith}
 use lib.ListN.{set}
 use mir.Facts.{toZ-ofZ}

@@ -1,9 +1,9 @@
 -- `sheet_puts::repeat` meets its contract: the block is laid on place by place. Assumes nothing.
-use mathlib.Core.Path.{_≡_, refl, sym, ap, _∙_}
-use Prim.Native.Nat.{ℕ, _≤_, _<_, _-_, _+_, _*_, min}
+use mathlib.Core.Path.{_≡_, _∙_}
+use Prim.Native.Nat.{_≤_, _-_}
 use native.Mathlib.Omega.{arith}
 use borrow.Author.Needs.{needs}
-use lib.ListN.{length, set, take, drop, length-set}
+use lib.ListN.{length, length-set}
 use native.Mathlib.Nat.{mul-le-mul}
 use mir.Facts.{toZ-ofZ}
 use Rattle.sheet_puts.proofs.Puts.{filled, filled-start, filled-loop, filled-end}

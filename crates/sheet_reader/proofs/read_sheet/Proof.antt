@@ -1,5 +1,4 @@
 -- `sheet_reader::read_sheet` meets its contract: by the length of the text. Assumes nothing.
-use mathlib.Core.Path.{_≡_, refl, sym, ap, subst, _∙_}
 use borrow.Author.Needs.{needs}
 use native.Mathlib.Omega.{arith}
 use lib.ListN.{length-take}
