@@ -161,7 +161,7 @@ fn cut(read: WholeRead) -> SheetRead
             at: 32768,
         },
         WholeRead::Sized { number: _, at: _ } => SheetRead::Refused {
-            number: 600,
+            number: 600, // J23: sizes come last
             at: 32768,
         },
         WholeRead::Stopped { number, at } => SheetRead::Refused { number, at },
