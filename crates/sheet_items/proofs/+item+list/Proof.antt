@@ -154,14 +154,7 @@ pub +item+list-spec : {M : Type 1} → statement M
           (l .loop .inv .1) (r .item .result) _ (r .item .ensures) _ (g .following .ensures) _ (v .later .ensures) _ _ (c .before .next .given .1)) .0,
     ))
     (λ c. search needs)
-    (λ c.
-    let g = c .before .before .before in
-    let r = g .before .before in
-    let v = r .before .before in
-    let l = v .before in
-    let s = l .before .before in
-    let a = s .args in
-    r .item .kept .1 .1 .1 .0 ∙ l .loop .inv .0)
+    (λ c. let r = c .before .before .before .before .before in r .item .kept .1 .1 .1 .0 ∙ r .before .before .before .loop .inv .0)
     (λ c.
     let g = c .before .before .before in
     let r = g .before .before in
@@ -172,14 +165,7 @@ pub +item+list-spec : {M : Type 1} → statement M
     turn-close (a .text .now) (a .from) (a .depth) (a .out .now) (a .at) (s .pre .1 .1) (l .loop .place) (l .loop .end) (l .loop .over) (l .loop .out)
     (l .loop .inv .1) (r .item .result) _ (r .item .ensures) _ (g .following .ensures) _ (v .later .ensures) _ _ (c .before .next2 .given .1))
     (λ c. search needs)
-    (λ c.
-    let g = c .before .before .before in
-    let r = g .before .before in
-    let v = r .before .before in
-    let l = v .before in
-    let s = l .before .before in
-    let a = s .args in
-    r .item .kept .1 .1 .1 .0 ∙ l .loop .inv .0)
+    (λ c. let r = c .before .before .before .before .before in r .item .kept .1 .1 .1 .0 ∙ r .before .before .before .loop .inv .0)
     (λ c.
     let g = c .before .before .before in
     let r = g .before .before in

@@ -7,20 +7,6 @@ use Rattle.sheet_puts.proofs.Puts.{put-one, put-full}
 use borrow.Author.Needs.{needs}
 use Rattle.sheet_puts.proofs.push.Statement.{statement}
 use Rattle.sheet_puts.proofs.push.Tie as tie
-use Rattle.sheet_puts.proofs.push.Reads as reads
-use Rattle.sheet_puts.proofs.push.Lts as lts
-
-mul-z : tie.Need-mul-z
-mul-z c = search needs
-
-slice-set-from-z : tie.Need-slice-set-from-z
-slice-set-from-z c = search needs
-
-add-result : tie.Need-add-result
-add-result c = search needs
-
-same-length : tie.Need-same-length
-same-length c = search needs
 
 returns : tie.Need-returns
 returns c = (
@@ -33,4 +19,4 @@ returns-2 : tie.Need-returns-2
 returns-2 c = (omega arith, put-full (c .before .args .out .now) (c .before .args .at) (c .before .args .z) (c .if1 .left) (c .before .pre))
 
 pub push-spec : {M : Type 1} → statement M
-push-spec = tie.close (tie.spec mul-z slice-set-from-z add-result same-length returns returns-2)
+push-spec = tie.close (tie.spec (λ c. search needs) (λ c. search needs) (λ c. search needs) (λ c. search needs) returns returns-2)

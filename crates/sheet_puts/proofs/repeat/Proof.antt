@@ -9,9 +9,6 @@ use mir.Facts.{toZ-ofZ}
 use Rattle.sheet_puts.proofs.Puts.{filled, filled-start, filled-loop, filled-end}
 use Rattle.sheet_puts.proofs.repeat.Statement.{statement}
 use Rattle.sheet_puts.proofs.repeat.Tie as tie
-use Rattle.sheet_puts.proofs.repeat.Reads as reads
-use Rattle.sheet_puts.proofs.repeat.Lts as lts
-use Rattle.sheet_puts.proofs.lesser.Reads as lesser-reads
 
 abbrev Inv-loop : tie.InvT-loop
 Inv-loop out₀ at end n size all stop j₀ out j =
@@ -23,17 +20,11 @@ Inv-loop out₀ at end n size all stop j₀ out j =
 abbrev μ-loop : tie.MeasureT-loop
 μ-loop out₀ at end n size all stop j₀ out j = stop - j
 
-sub-size : tie.Need-sub-size Inv-loop μ-loop
-sub-size c = omega arith
-
 mul-all : tie.Need-mul-all Inv-loop μ-loop
 mul-all c = let s : c .args .end - c .args .at ≤ 258 = omega arith in omega (arith, mul-le-mul (c .pre .3) s)
 
 add-all : tie.Need-add-all Inv-loop μ-loop
 add-all c = let s : c .args .end - c .args .at ≤ 258 = omega arith in omega (arith, mul-le-mul (c .pre .3) s)
-
-lesser-requires : tie.Need-lesser-requires Inv-loop μ-loop
-lesser-requires c κs = search needs
 
 loop-holds : tie.Need-loop-holds Inv-loop μ-loop
 loop-holds c = let s : c .before .args .end - c .before .args .at ≤ c .before .args .end - c .before .args .at = omega arith in
@@ -44,50 +35,26 @@ loop-holds c = let s : c .before .args .end - c .before .args .at ≤ c .before 
           (c .before .pre .2);
     }
 
-sub-out : tie.Need-sub-out Inv-loop μ-loop
-sub-out c = omega arith
-
-mul-out : tie.Need-mul-out Inv-loop μ-loop
-mul-out c = omega arith
-
-slice-copy-out-out : tie.Need-slice-copy-out-out Inv-loop μ-loop
-slice-copy-out-out c = omega arith
-
-mul-t15 : tie.Need-mul-t15 Inv-loop μ-loop
-mul-t15 c = omega arith
-
-slice-set-from-out : tie.Need-slice-set-from-out Inv-loop μ-loop
-slice-set-from-out c = omega arith
-
-add-j : tie.Need-add-j Inv-loop μ-loop
-add-j c = omega arith
-
-loop-less : tie.Need-loop-less Inv-loop μ-loop
-loop-less c = omega arith
-
 loop-again : tie.Need-loop-again Inv-loop μ-loop
 loop-again c =
-    let a = c .before .before .before .before .args in
-    let i = c .before .before .loop .inv in
+    let s = c .before .before .before .before in
+    let a = s .args in
+    let l = c .before .before .loop in
     record {
       within = simp length-set (omega arith);
-      is = filled-loop (c .before .before .before .before .args .out .now) (c .before .before .before .before .args .at)
-          (c .before .before .before .before .args .end) (c .before .before .before .before .args .n) (c .before .before .before .before .pre .0)
-          (c .before .before .before .before .pre .1) (c .before .before .before .before .pre .2) (c .before .before .loop .j) (i .within .0) (omega arith)
-          (omega arith) (c .before .before .loop .out) (i .is) _ (toZ-ofZ (record { sfits = c .out .given }));
+      is =
+          filled-loop (a .out .now) (a .at) (a .end) (a .n) (s .pre .0) (s .pre .1) (s .pre .2) (l .j) (l .inv .within .0) (omega arith) (omega arith)
+          (l .out) (l .inv .is) _ (toZ-ofZ (record { sfits = c .out .given }));
     }
 
-same-length : tie.Need-same-length Inv-loop μ-loop
-same-length c = omega arith
-
 returns : tie.Need-returns Inv-loop μ-loop
-returns c = (
-  c .before .before .lesser .ensures,
-  c .before .loop .inv .is
-      ∙ filled-end (c .before .before .before .args .out .now) (c .before .before .before .args .at) (c .before .before .before .args .end)
-      (c .before .before .before .args .n) (c .before .before .before .pre .0) (c .before .before .before .pre .1) (c .before .before .before .pre .2)
-      (c .before .loop .j) (omega arith),
-)
+returns c =
+    let s = c .before .before .before in
+    let a = s .args in
+    let l = c .before .loop in (
+      c .before .before .lesser .ensures,
+      l .inv .is ∙ filled-end (a .out .now) (a .at) (a .end) (a .n) (s .pre .0) (s .pre .1) (s .pre .2) (l .j) (omega arith),
+    )
 
 pub repeat-spec : {M : Type 1} → statement M
 repeat-spec =
@@ -95,18 +62,18 @@ repeat-spec =
     (tie.spec
     Inv-loop
     μ-loop
-    sub-size
+    (λ c. omega arith)
     mul-all
     add-all
-    lesser-requires
+    (λ c κs. search needs)
     loop-holds
-    sub-out
-    mul-out
-    slice-copy-out-out
-    mul-t15
-    slice-set-from-out
-    add-j
-    loop-less
+    (λ c. omega arith)
+    (λ c. omega arith)
+    (λ c. omega arith)
+    (λ c. omega arith)
+    (λ c. omega arith)
+    (λ c. omega arith)
+    (λ c. omega arith)
     loop-again
-    same-length
+    (λ c. omega arith)
     returns)
