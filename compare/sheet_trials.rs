@@ -2,9 +2,13 @@
 
 use crate::random::Random;
 use crate::sheet::{self, HEAD, LONGEST, SHEET};
-use crate::sheets::written;
+use crate::sheets::{table, written};
+use crate::trials;
 use crate::typed::padded;
 use std::io::Write;
+
+/// As many cells as always suffice.
+const CELLS: usize = 16_384;
 
 /// Sheets with an axis line that holds these lists.
 fn with(lists: &str) -> String {
@@ -193,28 +197,63 @@ fn grammar_trials() -> Vec<String> {
     all
 }
 
-/// Prints them: for each a line with both lengths in bytes, the sheet, and what is printed.
+/// The build of a sheet into so many cells: number and place, and the table.
+fn build(text: &[u8], cells: usize) {
+    let ((number, at), sheet) = sheet::judged(text, cells);
+    let built = sheet.filter(|_| number == 0).map_or(Vec::new(), |sheet| table(&sheet).0);
+    trials::whole("cells", cells);
+    trials::whole("= number", number as usize);
+    trials::whole("= at", at);
+    trials::whole("= cells", built.len());
+    trials::floats(&built, 4);
+}
+
+/// How many bytes, and then these.
+fn bytes(what: &str, list: &[u8]) {
+    trials::whole(what, list.len());
+    std::io::stdout().write_all(list).expect("it can be written");
+}
+
+/// A sheet with all that is printed of it, number and place, and two builds: into a buffer that always suffices, and into one that
+/// lacks a cell.
+fn print_trial(name: &str, text: &[u8]) {
+    let (number, at) = sheet::judge(text);
+    let cells = sheet::judged(text, usize::MAX).1.map_or(0, |sheet| sheet.cells());
+    let less = usize::try_from(cells - 1).map_or(0, |less| less.min(CELLS));
+    trials::name(name);
+    bytes("sheet", text);
+    bytes("= output", &written(text));
+    trials::whole("= number", number as usize);
+    trials::whole("= at", at);
+    build(text, CELLS);
+    build(text, less);
+}
+
+/// Prints them.
 pub fn print() {
     let mut random = Random(0x59f1_11f1_b605_d019);
-    let lists = [served_trials(), question_trials(), count_trials(), grammar_trials()];
-    let mut texts: Vec<Vec<u8>> = lists.concat().into_iter().map(String::into_bytes).collect();
-    texts.extend(sheet::examples().into_iter().map(|(text, _, _)| text).filter(|text| text.len() < 1000));
+    let lists =
+        [("served", served_trials()), ("questions", question_trials()), ("2 and 3", count_trials()), ("600, 601 and 4", grammar_trials())];
+    let mut all: Vec<(&str, Vec<u8>)> = Vec::new();
+    for (what, list) in lists {
+        all.extend(list.into_iter().map(|text| (what, text.into_bytes())));
+    }
+    let examples = || sheet::examples().into_iter().map(|(text, _, _)| text);
+    all.extend(examples().filter(|text| text.len() < 1000).map(|text| ("document 03", text)));
     // the longest sheet, one more byte, and more points than 32 bits count
     let longest = padded(&mut random, LONGEST, 8, 76, 100);
-    texts.push(longest.clone());
-    texts.push([&longest[..], b"("].concat());
-    texts.extend(
-        sheet::examples()
-            .into_iter()
-            .map(|(text, _, _)| text)
-            .find(|text| text.starts_with(b"(order 3)\n(range 0 2)\n(axis (points (again 64 (again 64")),
+    all.push(("32,768 bytes", longest.clone()));
+    all.push(("32,769 bytes", [&longest[..], b"("].concat()));
+    all.extend(
+        examples()
+            .find(|text| text.starts_with(b"(order 3)\n(range 0 2)\n(axis (points (again 64 (again 64"))
+            .map(|text| ("many points", text)),
     );
     let mut seen = std::collections::HashSet::new();
-    texts.retain(|text| seen.insert(text.clone()));
-    let mut out = std::io::stdout().lock();
-    for text in texts {
-        let printed = written(&text);
-        let trial = [format!("{} {}\n", text.len(), printed.len()).into_bytes(), text, printed].concat();
-        out.write_all(&trial).expect("it can be written");
+    all.retain(|(_, text)| seen.insert(text.clone()));
+    trials::remark("From here on printed by compare/run SPLINE_RS sheets trials: the");
+    trials::remark("answers are a second reader's and the Rust's.");
+    for (i, (what, text)) in all.iter().enumerate() {
+        print_trial(&format!("{i}: {what}"), text);
     }
 }

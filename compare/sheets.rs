@@ -75,7 +75,7 @@ fn program(text: &[u8], pause: Option<Duration>) -> Vec<u8> {
 // ---- what is expected
 
 /// The Rust's table of a sheet that no question refuses, and its inv_ds.
-fn table(sheet: &Sheet) -> (Vec<f64>, f64) {
+pub fn table(sheet: &Sheet) -> (Vec<f64>, f64) {
     let build = sheet.build();
     assert_eq!(build.number(), 0);
     let path = build.path().expect("the Rust builds it");

@@ -20,7 +20,7 @@ use Rattle.rules.proofs.Build.{by-order, coefficient-count}
 use Rattle.law_lists.proofs.Filling.{joined-ext}
 use Rattle.build_plan.specs.declared.Plan.{Plan}
 use Rattle.build_plan.specs.Given.{HasNumbers, Planned}
-use Rattle.build_axes.specs.AllAxes.{allAxes}
+use Rattle.build_filling.specs.AllAxes.{allAxes}
 
 has-numbers : (axes m : ℕ) (state : BoundaryState) (numbers : List Float) → T (validState axes m state numbers) → HasNumbers axes m state numbers
 unfolding validState

@@ -7,6 +7,7 @@ ghost use Rattle.rules.specs.Floats.{finite};
 ghost use Rattle.law_lists.specs.Lists.{all};
 ghost use Rattle.rules.specs.Questions.{firstNo};
 ghost use Rattle.rules.specs.Build.{inputOf, validState, finiteState, inputQuestions};
+use build_shape::shape_questions;
 use rules::BoundaryState;
 use rules::SplineConfig;
 
@@ -79,23 +80,9 @@ pub fn build_questions(
     let end_state = config.end_state;
     let s_min = config.s_min;
     let s_max = config.s_max;
-    if !questions::valid_order(order) {
-        return 302; // B1
-    }
-    if points < 2 {
-        return 304; // B2
-    }
-    if 257 < points {
-        return 2; // B3
-    }
-    if axes < 1 { // no axis
-        return 300; // B4: too few
-    }
-    if 8 < axes {
-        return 300; // B4: too many
-    }
-    if waypoints.len() != axes * points {
-        return 3; // B5
+    let number = shape_questions(order, points, axes, waypoints.len());
+    if number != 0 {
+        return number; // B1, B2, B3, B4, B5
     }
     let m = (order - 1) / 2;
     if !valid_state(axes, m, start_state, start) {

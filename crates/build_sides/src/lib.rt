@@ -12,7 +12,7 @@ ghost use Rattle.build_products.specs.Columns.{transposed};
 ghost use Rattle.build_plan.specs.Given.{firstOf, lastOf};
 ghost use Rattle.build_sides.specs.Node.{SideLent, NodeAt, part, put, fullSide};
 use build_plan::Plan;
-use build_segments::compute_rhs;
+use build_rhs::compute_rhs;
 
 // v − a·u where it is asked for, and else v; a is kept by columns.
 fn subtract_where(on: bool, m: usize, a: &[f64], u: &[f64], v: &mut [f64])

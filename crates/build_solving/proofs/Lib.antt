@@ -1,2 +1,2 @@
-pub mod SolvedColumns
 pub mod Steps
+pub mod SolvedColumns

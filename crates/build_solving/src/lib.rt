@@ -1,52 +1,13 @@
-// Solving with a factored matrix of m rows (crates/build_factoring), of module 4 of document 01: "each number once found, its
-// products are subtracted one at a time from the rows still to be solved". What each function does is said by the definitions
-// of crates/rules/specs/Solve.antt, for every m.
+// Solving with a factored matrix of m rows (crates/build_factoring), of module 4 of document 01: forward (crates/build_forward), and
+// then back, in the same way. What each function does is said by the definitions of crates/rules/specs/Solve.antt, for every m.
 ghost use mathlib.Core.Path.{_≡_};
 ghost use Prim.Native.Nat.{_*_, _<_};
-ghost use lib.ListN.{length, getD};
-ghost use Rattle.rules.specs.Floats.{_!_};
-ghost use Rattle.law_lists.specs.Lists.{listed};
+ghost use lib.ListN.{length};
 ghost use Rattle.rules.specs.Solve.{forward, solve, solveMatrix};
 ghost use Rattle.build_products.specs.Columns.{transposed, Below};
-ghost use Rattle.build_solving.specs.Steps.{Solvable, forwardStep, backwardStep};
-
-// The right side with its rows exchanged.
-fn permuted(rows: &[usize], b: &[f64], out: &mut [f64])
-    requires { ⌜ (length (now out) ≡ length (now rows)) × Below (length (now b)) (now rows) ⌝ }
-    ensures { λ r. ⌜ now (out .exit) ≡ listed (length (now (rows .entry))) (λ i. now (b .entry) ! getD (now (rows .entry)) i 0) ⌝ }
-{
-    let mut i = 0;
-    while i < rows.len() {
-        out[i] = b[rows[i]];
-        i += 1;
-    }
-}
-
-// R16, R18: the number of row k is found: its products are subtracted from the rows below.
-fn forward_step(m: usize, entries: &[f64], k: usize, y: &mut [f64])
-    requires { ⌜ (length (now entries) ≡ m * m) × (k < m) × (length (now y) ≡ m) ⌝ }
-    ensures { λ r. ⌜ now (y .exit) ≡ forwardStep m (now (entries .entry)) (now (y .entry)) k ⌝ }
-{
-    let x = y[k];
-    let mut i = k + 1;
-    while i < m {
-        y[i] = y[i] - entries[i * m + k] * x;
-        i += 1;
-    }
-}
-
-// R16: "Solve forward from the first row".
-fn forward(m: usize, entries: &[f64], rows: &[usize], b: &[f64], y: &mut [f64])
-    requires { ⌜ Solvable m (now entries) (now rows) (now b) (now y) ⌝ }
-    ensures { λ r. ⌜ now (y .exit) ≡ forward m (record { entries = now (entries .entry); rows = now (rows .entry) }) (now (b .entry)) m ⌝ }
-{
-    permuted(rows, b, y);
-    let mut k = 0;
-    while k < m {
-        forward_step(m, entries, k, y);
-        k += 1;
-    }
-}
+ghost use Rattle.build_forward.specs.Steps.{Solvable};
+ghost use Rattle.build_solving.specs.Steps.{backwardStep};
+use build_forward::forward;
 
 // R17, R18: row k is solved by division, and its products are subtracted from the rows above.
 fn backward_step(m: usize, entries: &[f64], k: usize, y: &mut [f64])

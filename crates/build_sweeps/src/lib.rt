@@ -13,7 +13,7 @@ ghost use Rattle.build_plan.specs.Given.{firstOf, lastOf};
 ghost use Rattle.build_sides.specs.Node.{part, put};
 ghost use Rattle.build_sweeps.specs.Axis.{waypointsOf, NodeSolved, SweepLent};
 use build_plan::Plan;
-use build_segments::dy;
+use build_rhs::dy;
 use build_sides::full_side;
 use build_sides::solve_node;
 

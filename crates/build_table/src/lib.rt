@@ -5,7 +5,7 @@ ghost use Prim.Native.Nat.{_+_, _*_};
 ghost use lib.ListN.{length};
 ghost use Rattle.rules.specs.Build.{everyPivot};
 ghost use Rattle.build_plan.specs.Given.{Planned};
-ghost use Rattle.build_axes.specs.AllAxes.{allAxes};
+ghost use Rattle.build_filling.specs.AllAxes.{allAxes};
 use build_plan::Plan;
 
 // F10: "Lists per node: fixed arrays for 255 nodes." A curve with fewer nodes has shorter ones, since an array is set to

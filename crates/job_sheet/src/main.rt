@@ -1,5 +1,5 @@
 // J9: the program that reads a job sheet from standard input and prints its table or its refusal, as document 02's Wish 1 has it.
-// What it prints is sheet::print_sheet's to say, whatever the bytes are.
+// What it prints is sheet_print::print_sheet's to say, whatever the bytes are.
 use libc::STDIN_FILENO;
 use libc::STDOUT_FILENO;
 
@@ -14,7 +14,7 @@ fn write_first(bytes: &[u8], count: usize) {
 
 // (The arrays are made and lent apart: the prover knows the length of one that is a parameter, and counts that of one just made.)
 fn print(text: &[u8], coeffs: &mut [f64; 16384], out: &mut [u8; 302240]) {
-    let printed = sheet::print_sheet(text, coeffs, out);
+    let printed = sheet_print::print_sheet(text, coeffs, out);
     write_first(out, printed.count);
 }
 

@@ -26,8 +26,10 @@ use Rattle.law_lists.proofs.Places.{next-part}
 use Rattle.rules.proofs.Build.{by-order, coefficient-count}
 use Rattle.rules.proofs.Questions.{numbered, never, answerAt, said-yes}
 use Rattle.rules.proofs.Master.{same→eq, eq→same, to-equations, of-equations}
-use Rattle.master_equations.specs.Segment.{Shaped, segmentMeets, segmentPart}
-use Rattle.master.specs.Pass.{questionsBefore, meetsUpTo, passSays}
+use Rattle.master_equations.specs.Segment.{Shaped, segmentMeets}
+use Rattle.master_segments.specs.Answer.{segmentPart}
+use Rattle.master_questions.specs.Asked.{questionsBefore}
+use Rattle.master.specs.Pass.{meetsUpTo, passSays}
 
 -- ---- the questions
 

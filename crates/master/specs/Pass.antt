@@ -1,25 +1,13 @@
--- What the functions below `check_master` are held to, which a reader of its contract does not need: the questions but for the table's numbers, and the
--- equations in the order in which one pass over the table meets them. proofs/Pass.antt: they are those of crates/rules/specs/Master.antt. Assumes nothing.
+-- What the functions below `check_master` are held to, which a reader of its contract does not need: the equations in the order in which one pass over the
+-- table meets them. proofs/Pass.antt: they are those of crates/rules/specs/Master.antt. Assumes nothing.
 use mathlib.Core.Bool.{Bool, not, cond, _&&_}
-use mathlib.Core.List.{List, [], _∷_, _++_}
+use mathlib.Core.List.{List}
 use Prim.Native.Nat.{ℕ, _-_}
 use lib.IntN.{ℤ}
 use lib.ListN.{length}
 use Rattle.law_lists.specs.Lists.{all, every}
-use Rattle.rules.specs.Questions.{Question, ask}
-use Rattle.rules.specs.Master.{MasterSet, MasterSays, sizeQuestions, lengthQuestions, within, meetsStart}
+use Rattle.rules.specs.Master.{MasterSays, within, meetsStart}
 use Rattle.master_equations.specs.Segment.{segmentMeets}
-
--- ---- the questions
-
--- M1, M2, M3, M4, M5, M6, M7: the last question is asked of all but the table
-unfoldable pub questionsBefore : MasterSet → List Question
-questionsBefore s =
-    sizeQuestions (s .order) (length (s .waypoints))
-    ++ lengthQuestions s
-    ++ (ask (all within (s .waypoints) && all within (s .start) && all within (s .end)) 4 ∷ [])
-
--- ---- all segments
 
 -- the start state is met, and so are the equations of the first n segments
 unfoldable pub meetsUpTo : ℕ → List ℤ → List ℤ → List ℤ → List ℤ → ℕ → Bool

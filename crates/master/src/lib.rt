@@ -5,12 +5,9 @@ ghost use lib.ListN.{length};
 ghost use Rattle.rules.specs.Master.{setOf, checkMaster, masterSays};
 ghost use Rattle.master_equations.specs.Segment.{Shaped};
 ghost use Rattle.master.specs.Pass.{passSays};
-
-mod asked;
-
-use crate::asked::master_questions;
-use master_equations::segment::check_segment;
-use master_equations::segment::meets_start;
+use master_equations::meets_start;
+use master_questions::master_questions;
+use master_segments::check_segment;
 use rules::MasterAnswer;
 
 // A1, M8: whether an answer is yes.

@@ -1,3 +1,1 @@
-pub mod SegmentPart
-pub mod Meets
-pub mod SegmentSays
+pub mod Tests

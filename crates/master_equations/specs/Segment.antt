@@ -1,13 +1,13 @@
 -- One segment of a master: what its equations are, and what the functions that ask them are lent. Assumes nothing.
 use mathlib.Core.Path.{_≡_}
-use mathlib.Core.Bool.{Bool, not, cond, _&&_}
+use mathlib.Core.Bool.{Bool, cond, _&&_}
 use mathlib.Core.List.{List}
 use Prim.Native.Nat.{ℕ, suc, _+_, _-_, _*_, _≤_}
 use lib.Dec.{eqb}
 use lib.IntN.{ℤ}
-use lib.ListN.{length, take, drop}
-use Rattle.law_lists.specs.Lists.{all, every}
-use Rattle.rules.specs.Master.{MasterSays, within, same, at, coefficient, atEnd}
+use lib.ListN.{length}
+use Rattle.law_lists.specs.Lists.{every}
+use Rattle.rules.specs.Master.{same, at, coefficient, atEnd}
 
 -- what the questions have settled of the lengths of a set with so many waypoints, the start state aside
 pub record Shaped (m : ℕ) (w end table : List ℤ) : Type 0 where
@@ -30,13 +30,3 @@ segmentMeets m w end table i =
     && cond (eqb (i + 2) (length w))
     (every m (λ r. same (atEnd m table i (suc r)) (at end r)))
     (every (2 * m) (λ r. same (atEnd m table i (suc r)) (coefficient m table (suc i) (suc r))))
-
--- the coefficients of segment i
-unfoldable pub segmentPart : ℕ → List ℤ → ℕ → List ℤ
-segmentPart m table i = take (2 * m + 2) (drop (i * (2 * m + 2)) table)
-
--- the answer up to segment i, where `before` says whether all before it is good: a number of its own out of range refuses
-unfoldable pub segmentSays : Bool → ℕ → List ℤ → List ℤ → List ℤ → ℕ → MasterSays
-segmentSays before m w end table i =
-    let fit = all within (segmentPart m table i) in
-    record { refused = not fit; number = cond fit 0 4; good = fit && (before && segmentMeets m w end table i) }

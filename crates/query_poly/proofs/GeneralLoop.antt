@@ -11,8 +11,8 @@ use lib.Seq.{drop-cons}
 use lib.Ieee.{Float, nan}
 use Rattle.rules.specs.Floats.{+0}
 use Rattle.rules.specs.Query.{generalLoop, loopDerivative}
-use Rattle.query_poly.specs.declared.Derivatives.{Derivatives}
-use Rattle.query_poly.specs.Level.{asked}
+use Rattle.query_loop.specs.declared.Derivatives.{Derivatives}
+use Rattle.query_loop.specs.Level.{asked}
 
 -- what is asked for of a list of coefficients
 abbrev looped : ℕ → Float → List Float → Derivatives

@@ -1,9 +1,11 @@
-// What the questions before a build, before a query and before a check share: the order, finite numbers, and the range with
-// its quotient.
+// What the questions before a build, before a query and before a check share: the order and the number of points, finite numbers,
+// and the range with its quotient.
 ghost use mathlib.Core.Path.{_≡_};
 ghost use Prim.Native.Nat.{_≤_};
 ghost use Rattle.rules.specs.Floats.{finite};
+ghost use Rattle.rules.specs.Questions.{firstNo};
 ghost use Rattle.rules.specs.Build.{validOrder, validRange, invDs};
+ghost use Rattle.rules.specs.Master.{sizeQuestions};
 use rules::PathParam;
 
 // The number is neither NaN nor an infinity: x − x is 0 for every other.
@@ -24,6 +26,22 @@ pub fn valid_order(order: usize) -> bool
         return true;
     }
     order == 7
+}
+
+// What a build and a check ask first: the number of the first no, and 0 where all say yes.
+pub fn size_questions(order: usize, points: usize) -> u32
+    ensures { λ r. ⌜ r ≡ firstNo (sizeQuestions order points) ⌝ }
+{
+    if !valid_order(order) {
+        return 302; // B1, M1
+    }
+    if points < 2 {
+        return 304; // B2, M2
+    }
+    if 257 < points {
+        return 2; // B3, M3
+    }
+    0 // every question says yes
 }
 
 // B8, Q6: inv_ds, how many segments come to a unit of s.

@@ -1,3 +1,1 @@
-pub mod Enough
 pub mod Answers
-pub mod Printed

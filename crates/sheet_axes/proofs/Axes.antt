@@ -19,13 +19,15 @@ use Rattle.sheet_laws.proofs.Exact.{then-got}
 use Rattle.sheet_items.proofs.Sizes.{list-size}
 use Rattle.sheet_items.proofs.Lists.{then-then}
 use Rattle.sheet_puts.specs.Put.{put}
-use Rattle.sheet_axis.specs.declared.AxisSizes.{AxisSizes}
+use Rattle.sheet_sizes.specs.declared.AxisSizes.{AxisSizes}
 use Rattle.sheet_axis.specs.declared.AxisRead.{AxisRead}
 use Rattle.sheet_axis.specs.declared.AxisRead.the-variants as axisRead
-use Rattle.sheet_axis.specs.Says.{Stops, placeOf, faultOf, AxisTo, AxisSays}
-use Rattle.sheet_axes.specs.declared.AxesSizes.{AxesSizes}
+use Rattle.sheet_axis.specs.Says.{Stops, AxisTo, AxisSays}
+use Rattle.sheet_sizes.specs.Sizes.{placeOf, faultOf}
+use Rattle.sheet_sizes.specs.declared.AxesSizes.{AxesSizes}
 use Rattle.sheet_axes.specs.declared.AxesRead.the-variants as axesRead
-use Rattle.sheet_axes.specs.Says.{firstPlace, withAxis, togetherOf, Clean, AxesSay}
+use Rattle.sheet_axes.specs.Says.{firstPlace, Clean, AxesSay}
+use Rattle.sheet_sizes.specs.Sizes.{withAxis, togetherOf}
 use Rattle.sheet_axes.proofs.Numbers.{AllNear, list-near, list-some}
 use Rattle.sheet_axes.proofs.Buffers.{Keeps, keeps-none, keeps-more}
 use Rattle.sheet_axes.proofs.Columns.{columns-more, each-more, each-length}

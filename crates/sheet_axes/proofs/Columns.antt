@@ -11,7 +11,7 @@ use borrow.Author.Tests.{eqb-true, eqb-false, eq-eqb, ne-eqb}
 use Rattle.law_lists.specs.Lists.{all}
 use Rattle.rules.specs.Sheets.{Axis}
 use Rattle.rules.specs.SheetAnswers.{ofEach, columnsOf}
-use Rattle.sheet_axes.specs.Says.{togetherOf}
+use Rattle.sheet_sizes.specs.Sizes.{togetherOf}
 
 all-more : {A : Type 0} (f : A → Bool) (xs : List A) (y : A) → all f (xs ++ (y ∷ [])) ≡ all f xs && f y
 unfolding all

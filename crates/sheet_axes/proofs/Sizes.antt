@@ -13,8 +13,9 @@ use Rattle.rules.specs.Sheets.{Item, Items, one, more, states, axis, bytes, spe
 use Rattle.rules.specs.SheetFaults.{Refusal, refusal, sizeOf, size, over, unlike, stateSizes, axisSizes}
 use Rattle.sheet_items.specs.Says.{overAt}
 use Rattle.sheet_items.proofs.Lists.{over-here, over-later}
-use Rattle.sheet_axis.specs.declared.AxisSizes.{AxisSizes}
-use Rattle.sheet_axis.specs.Says.{placeOf, faultOf, ListIn, AxisTo}
+use Rattle.sheet_sizes.specs.declared.AxisSizes.{AxisSizes}
+use Rattle.sheet_axis.specs.Says.{ListIn, AxisTo}
+use Rattle.sheet_sizes.specs.Sizes.{placeOf, faultOf}
 use Rattle.sheet_axes.specs.Says.{firstPlace}
 
 -- a place, or where its number is 0 another

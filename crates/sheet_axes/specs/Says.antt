@@ -1,20 +1,18 @@
 -- What the answer for all axes of a job sheet says of the judge's reading. Assumes nothing.
 use mathlib.Core.Path.{_≡_}
-use mathlib.Core.Bool.{cond}
 use mathlib.Core.List.{List, [], _∷_}
 use Prim.Native.Nat.{ℕ, _≤_, _<_}
 use lib.IntN.{ℤ}
 use lib.ListN.{length, getD}
-use lib.Dec.{eqb}
 use Rattle.rules.specs.declared.SheetPlace.{SheetPlace}
 use Rattle.rules.specs.Sheets.{Axis, Axes, within, below4}
 use Rattle.rules.specs.SheetReading as reading
 use Rattle.rules.specs.SheetFaults.{Refusal, refusal, firstCount, axesSizes}
 use Rattle.rules.specs.SheetAnswers.{axesOf, pointsOf, startOf, endOf, ofEach, columnsOf}
 use Rattle.sheet_record.specs.Held.{Held}
-use Rattle.sheet_axis.specs.declared.AxisSizes.{AxisSizes}
-use Rattle.sheet_axis.specs.Says.{Reads, Stops, placeOf, faultOf}
-use Rattle.sheet_axes.specs.declared.AxesSizes.{AxesSizes}
+use Rattle.sheet_axis.specs.Says.{Reads, Stops}
+use Rattle.sheet_sizes.specs.Sizes.{placeOf}
+use Rattle.sheet_sizes.specs.declared.AxesSizes.{AxesSizes}
 use Rattle.sheet_axes.specs.declared.AxesRead.{AxesRead}
 use Rattle.sheet_axes.specs.declared.AxesRead.the-variants as axesRead
 
@@ -24,23 +22,6 @@ use Rattle.sheet_axes.specs.declared.AxesRead.the-variants as axesRead
 unfoldable pub firstPlace : List Refusal → SheetPlace
 firstPlace [] = placeOf 0 0
 firstPlace (refusal k place ∷ rest) = placeOf k place
-
--- J26: how many numbers each list has so far, with one more: 0 where they differ
-abbrev pub togetherOf : ℕ → ℕ → ℕ → ℕ
-togetherOf k sofar n = cond (eqb k 0) n (cond (eqb sofar n) n 0)
-
--- what was counted on k axes, with one more
-unfoldable pub withAxis : ℕ → AxesSizes → AxisSizes → AxesSizes
-withAxis k sofar z =
-    let count = cond (eqb k 0) (z .points) (sofar .points) in
-    let fault = cond (eqb (sofar .number) 0) (faultOf z count) (placeOf (sofar .number) (sofar .at)) in
-    record {
-      points = count;
-      start = togetherOf k (sofar .start) (z .start);
-      end = togetherOf k (sofar .end) (z .end);
-      number = fault .number;
-      at = fault .at;
-    }
 
 -- what is known of the axes where none is refused for a size: the buffers hold their lists
 pub record Clean (axes : List Axis) (z : AxesSizes) (points start end : List ℤ) : Type 0 where

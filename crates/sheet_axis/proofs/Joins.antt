@@ -9,10 +9,10 @@ use Rattle.rules.specs.SheetReading as reading
 use Rattle.sheet_laws.proofs.Exact.{Any}
 use Rattle.sheet_laws.proofs.Words.{always, wordN, word-out}
 use Rattle.sheet_laws.proofs.Limits.{spelled}
-use Rattle.sheet_numbers.specs.declared.Passed.{Passed}
-use Rattle.sheet_numbers.specs.declared.Passed.the-variants as passed
-use Rattle.sheet_numbers.specs.Says.{passedOf, PassedInside}
-use Rattle.sheet_numbers.proofs.Steps.{passed-inside, passed-stop}
+use Rattle.sheet_words.specs.declared.Passed.{Passed}
+use Rattle.sheet_words.specs.declared.Passed.the-variants as passed
+use Rattle.sheet_words.specs.Says.{passedOf, PassedInside}
+use Rattle.sheet_words.proofs.Steps.{passed-inside, passed-stop}
 use Rattle.sheet_axis.specs.Says.{Reads, Stops}
 
 -- where a part of the text is spelled, the next place is as far on as the spelling is long

@@ -1,12 +1,9 @@
 -- What the answers for an axis of a job sheet say of the judge's reading. Assumes nothing.
 use mathlib.Core.Path.{_≡_}
-use mathlib.Core.Bool.{cond}
 use mathlib.Core.List.{List}
 use Prim.Native.Nat.{ℕ, _+_, _-_, _≤_, _<_, min}
 use lib.IntN.{ℤ}
 use lib.ListN.{length, drop}
-use lib.Dec.{leb, eqb}
-use Rattle.rules.specs.declared.SheetPlace.{SheetPlace}
 use Rattle.rules.specs.Sheets.{Items, states, axis, bytes, spellItems, spellStates, spellAxis, ValidItems, within, below4}
 use Rattle.rules.specs.SheetReading as reading
 use Rattle.rules.specs.SheetFaults.{size}
@@ -18,7 +15,7 @@ use Rattle.sheet_items.specs.Says.{overAt}
 use Rattle.sheet_axis.specs.declared.StateSizes.{StateSizes}
 use Rattle.sheet_axis.specs.declared.StatesRead.{StatesRead}
 use Rattle.sheet_axis.specs.declared.StatesRead.the-variants as statesRead
-use Rattle.sheet_axis.specs.declared.AxisSizes.{AxisSizes}
+use Rattle.sheet_sizes.specs.declared.AxisSizes.{AxisSizes}
 use Rattle.sheet_axis.specs.declared.AxisRead.{AxisRead}
 use Rattle.sheet_axis.specs.declared.AxisRead.the-variants as axisRead
 
@@ -86,16 +83,3 @@ pub record AxisTo (text : List ℕ) (from : ℕ) (points start end : List ℤ) (
 unfoldable pub AxisSays : List ℕ → ℕ → List ℤ → List ℤ → List ℤ → AxisRead → List ℤ → List ℤ → List ℤ → Type 0
 AxisSays text from points start end (axisRead.Is z) pointsAfter startAfter endAfter = AxisTo text from points start end z pointsAfter startAfter endAfter
 AxisSays text from points start end (axisRead.Stop k place) pointsAfter startAfter endAfter = Stops (reading.readAxis within below4) text from k place
-
--- ---- the sizes
-
--- J23, J24: the first of 2 and 3 on an axis, in the order of the text, where axis one has so many points; the number 0 where there is none
-abbrev pub placeOf : ℕ → ℕ → SheetPlace
-placeOf k place = record { number = k; at = place }
-
-unfoldable pub faultOf : AxisSizes → ℕ → SheetPlace
-faultOf z count =
-    cond (leb 258 (z .points)) (placeOf 2 (z .«points_over»))
-    (cond (eqb (z .points) count)
-    (cond (leb 4 (z .start)) (placeOf 2 (z .«start_over»)) (cond (leb 4 (z .end)) (placeOf 2 (z .«end_over»)) (placeOf 0 0)))
-    (placeOf 3 (z .close)))

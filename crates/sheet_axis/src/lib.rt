@@ -1,15 +1,14 @@
 // An axis of a job sheet: three lists with fixed bytes between them, each written into a buffer that is one longer than it may be.
-// Two and three are not refused here, since a byte that cannot be comes before them wherever it stands: what was counted, and where,
-// is handed on.
+// What was counted, and where, is handed on (crates/sheet_sizes).
 ghost use mathlib.Core.Path.{_≡_};
 ghost use Prim.Native.Nat.{_≤_, _<_};
 ghost use lib.ListN.{length};
 ghost use Rattle.rules.specs.Sheets.{bytes, within, below4};
 ghost use Rattle.rules.specs.SheetReading.{readEnd};
-ghost use Rattle.sheet_axis.specs.Says.{ledList, ListSays, StatesSay, AxisSays, faultOf};
-use rules::SheetPlace;
+ghost use Rattle.sheet_axis.specs.Says.{ledList, ListSays, StatesSay, AxisSays};
 use sheet_items::Listed;
-use sheet_numbers::Passed;
+use sheet_sizes::AxisSizes;
+use sheet_words::Passed;
 
 // How many numbers a start list and an end list have, as far as a buffer holds them, where each was filled up, and the place
 // after the axis.
@@ -26,18 +25,7 @@ pub enum StatesRead {
     Stop { number: u32, at: usize },
 }
 
-// The same of a whole axis; `close` is the bracket that closes its points.
-pub struct AxisSizes {
-    pub points: usize,
-    pub points_over: usize,
-    pub close: usize,
-    pub start: usize,
-    pub start_over: usize,
-    pub end: usize,
-    pub end_over: usize,
-    pub next: usize,
-}
-
+// The same of a whole axis (crates/sheet_sizes).
 pub enum AxisRead {
     Is(AxisSizes),
     Stop { number: u32, at: usize },
@@ -48,7 +36,7 @@ fn led(text: &[u8], from: usize, w: &[u8], out: &mut [i64]) -> Listed
     requires { ⌜ (from ≤ length (now text)) × (length (now out) ≤ 258) ⌝ }
     ensures { λ r. ⌜ ListSays (ledList (now (w .entry))) (now (w .entry)) (bytes "") (now (text .entry)) from (now (out .entry)) r (now (out .exit)) ⌝ }
 {
-    let passed = sheet_numbers::word(text, from, w);
+    let passed = sheet_words::word(text, from, w);
     match passed {
         Passed::To { next } => sheet_items::list(text, next, 0, out, 0),
         Passed::Stop { number, at } => Listed::Stop { number, at },
@@ -63,7 +51,7 @@ fn ending(text: &[u8], from: usize, out: &mut [i64]) -> Listed
     let list = led(text, from, b" (end ", out);
     match list {
         Listed::To { end, next, over } => {
-            let closed = sheet_numbers::word(text, next, b")\n");
+            let closed = sheet_words::word(text, next, b")\n");
             match closed {
                 Passed::To { next: after } => Listed::To {
                     end,
@@ -137,35 +125,4 @@ pub fn axis(
         }
         Listed::Stop { number, at } => AxisRead::Stop { number, at },
     }
-}
-
-// J23, J24: 2 for the 258th point or a state's 4th number, 3 for another count than axis one's: the first in the order of the text.
-pub fn fault_of(z: AxisSizes, count: usize) -> SheetPlace
-    ensures { λ r. ⌜ r ≡ faultOf z count ⌝ }
-{
-    if 258 <= z.points {
-        return SheetPlace {
-            number: 2,
-            at: z.points_over,
-        };
-    }
-    if z.points != count {
-        return SheetPlace {
-            number: 3,
-            at: z.close,
-        };
-    }
-    if 4 <= z.start {
-        return SheetPlace {
-            number: 2,
-            at: z.start_over,
-        };
-    }
-    if 4 <= z.end {
-        return SheetPlace {
-            number: 2,
-            at: z.end_over,
-        };
-    }
-    SheetPlace { number: 0, at: 0 }
 }

@@ -1,4 +1,3 @@
-pub mod Exact
 pub mod Columns
 pub mod States
 pub mod Read

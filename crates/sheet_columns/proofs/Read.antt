@@ -15,7 +15,8 @@ use Rattle.rules.specs.SheetAnswers.{pointsOf, startOf, endOf, ofEach, columnsO
 use Rattle.sheet_record.specs.declared.SheetNumbers.{SheetNumbers}
 use Rattle.sheet_record.specs.Held.{Near, Held, axesIn, ReadOf}
 use Rattle.sheet_columns.specs.Columns.{columnsAt, InReach}
-use Rattle.sheet_columns.specs.Input.{configRead, inputRead, Small, Reached, Prepared}
+use Rattle.sheet_config.specs.Config.{configRead, Small}
+use Rattle.sheet_columns.specs.Input.{inputRead, Reached, Prepared}
 use Rattle.sheet_columns.proofs.States.{columns-long}
 
 pub length-ofEach : (f : Axis → List ℤ) (axes : List Axis) → length (ofEach f axes) ≡ length axes

@@ -11,8 +11,8 @@ use lib.Dec.{ltb, lit≤}
 use borrow.Author.Tests.{ltb-true, ltb-false}
 use Rattle.rules.specs.Sheets.{natural}
 use Rattle.sheet_laws.proofs.Decimal.{natural-digit, natural-tenth}
-use Rattle.sheet_digits.specs.Written.{written}
-use Rattle.sheet_digits.proofs.Writing.{before-set, written-none}
+use Rattle.sheet_bits.specs.Written.{written}
+use Rattle.sheet_bits.proofs.Writing.{before-set, written-none}
 
 pub length-tenth : (n : ℕ) → 10 ≤ n → length (natural n) ≡ length (natural (n / 10)) + 1
 length-tenth n h = ap length (natural-tenth n h) ∙ length-append (natural (n / 10)) ((48 + n % 10) ∷ [])

@@ -10,12 +10,15 @@ use borrow.Author.Tests.{eq-eqb, ne-eqb, lt-ltb, le-ltb}
 use Rattle.rules.specs.Sheets.{Item, within}
 use Rattle.rules.specs.SheetReading as reading
 use Rattle.sheet_puts.specs.Put.{put}
-use Rattle.sheet_numbers.specs.declared.Counted.{Counted}
-use Rattle.sheet_numbers.specs.declared.Counted.the-variants as counted
+use Rattle.sheet_counts.specs.declared.Counted.{Counted}
+use Rattle.sheet_counts.specs.declared.Counted.the-variants as counted
 use Rattle.sheet_numbers.specs.declared.Whole.{Whole}
 use Rattle.sheet_numbers.specs.declared.Whole.the-variants as whole
-use Rattle.sheet_numbers.specs.Says.{countedOf, CountedInside, CountedSmall, wholeOf, WholeInside, WholeSmall}
-use Rattle.sheet_numbers.proofs.Steps.{drop-here, counted-inside, counted-small, counted-stop, whole-inside, whole-small, whole-stop, kept, near-kept}
+use Rattle.sheet_counts.specs.Says.{countedOf, CountedInside, CountedSmall}
+use Rattle.sheet_numbers.specs.Says.{wholeOf, WholeInside, WholeSmall}
+use Rattle.sheet_laws.proofs.Texts.{drop-here}
+use Rattle.sheet_counts.proofs.Steps.{counted-inside, counted-small, counted-stop}
+use Rattle.sheet_numbers.proofs.Steps.{whole-inside, whole-small, whole-stop, kept, near-kept}
 use Rattle.sheet_items.specs.declared.Opening.the-variants as opening
 use Rattle.sheet_items.specs.declared.Filled.{Filled}
 use Rattle.sheet_items.specs.declared.Filled.the-variants as filled

@@ -16,7 +16,7 @@ ghost use Rattle.sheet_items.specs.Says.{
   repeatedIn,
   Following,
 };
-use sheet_numbers::Counted;
+use sheet_counts::Counted;
 use sheet_numbers::Whole;
 
 // How an item begins: with a number, with the heading of a form of so many times whose list starts at `start`, or with a fault.
@@ -72,7 +72,7 @@ fn open_item(text: &[u8], from: usize, depth: usize) -> Opening
             at: from,
         };
     }
-    let form = sheet_numbers::head(text, from + 1);
+    let form = sheet_counts::head(text, from + 1);
     match form {
         Counted::Is { value, next } => Opening::Again {
             times: value,

@@ -7,3 +7,9 @@ pub mod Items
 pub mod Short
 pub mod Fuel
 pub mod Limits
+pub mod Texts
+pub mod Beside
+pub mod LimitItems
+pub mod Whole
+pub mod Found
+pub mod Places

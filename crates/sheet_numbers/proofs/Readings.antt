@@ -3,63 +3,30 @@ use Prim.{tt}
 use mathlib.Core.Path.{_≡_, refl, sym, ap, _∙_}
 use mathlib.Core.Bool.{true, false}
 use mathlib.Core.List.{List}
-use Prim.Native.Nat.{ℕ, zero, suc, _+_, _-_, _*_, _^_, _<_, _≤_}
+use Prim.Native.Nat.{ℕ, zero, suc, _+_, _-_, _^_, _<_, _≤_}
 use native.Mathlib.Omega.{arith}
 use lib.IntN.{ℤ, pos, negsuc, negℤ, natAbs}
 use lib.ListN.{length, getD, drop, drop-of-length-le}
-use borrow.Author.Tests.{le-leb, lt-leb, eq-eqb, ne-eqb}
-use Rattle.rules.specs.Sheets.{bytes, within}
+use borrow.Author.Tests.{eq-eqb, ne-eqb}
+use Rattle.rules.specs.Sheets.{within}
 use Rattle.rules.specs.SheetReading as reading
+use Rattle.sheet_laws.proofs.Texts.{drop-here}
+use Rattle.sheet_decimals.specs.declared.Decimal.{Decimal}
+use Rattle.sheet_decimals.specs.declared.Decimal.the-variants.{Worth, Missing, Over}
+use Rattle.sheet_decimals.specs.Says.{decimalOf, upTo, DecimalInside, DecimalSmall}
 use Rattle.sheet_numbers.specs.declared.Whole.{Whole}
 use Rattle.sheet_numbers.specs.declared.Whole.the-variants as whole
-use Rattle.sheet_numbers.specs.declared.Decimal.{Decimal}
-use Rattle.sheet_numbers.specs.declared.Decimal.the-variants.{Worth, Missing, Over}
-use Rattle.sheet_numbers.specs.Says.{
-  countedOf,
-  wholeOf,
-  decimalOf,
-  upTo,
-  PositiveSays,
-  spaced,
-  plainOf,
-  negatedOf,
-  limitedOf,
-  CountedInside,
-  WholeInside,
-  DecimalInside,
-  CountedSmall,
-  WholeSmall,
-  DecimalSmall,
-}
-use Rattle.sheet_numbers.proofs.Steps.{drop-here}
+use Rattle.sheet_numbers.specs.Says.{wholeOf, PositiveSays, plainOf, negatedOf, WholeInside, WholeSmall}
 
--- ---- digits
+-- ---- digits that do not lead with a 0
 
 -- `over`: the judge's answer where a digit passes the limit
 module _ (limit : ℕ) (over : List ℕ → reading.Read ℕ) (s : List ℕ) (i : ℕ) where
-  pub digits-end : (n : ℕ) → length s ≤ i → reading.digits (upTo limit) over n (drop i s) ≡ reading.got n (drop i s)
-  unfolding reading.digits
-  digits-end n h = rw (drop-of-length-le s h)
-
   pub positive-end : length s ≤ i → reading.positive (upTo limit) over (drop i s) ≡ reading.stop 600 (drop i s)
   unfolding reading.positive
   positive-end h = rw (drop-of-length-le s h)
 
   module _ (h : i < length s) where
-    pub digits-other : (n : ℕ) → reading.isDigit (getD s i 0) ≡ false → reading.digits (upTo limit) over n (drop i s) ≡ reading.got n (drop i s)
-    unfolding reading.digits
-    digits-other n e = rw (drop-here s i h, e, reading.digits)
-
-    pub digits-more : (n : ℕ) → reading.isDigit (getD s i 0) ≡ true → n * 10 + (getD s i 0 - 48) ≤ limit
-        → reading.digits (upTo limit) over n (drop i s) ≡ reading.digits (upTo limit) over (n * 10 + (getD s i 0 - 48)) (drop (i + 1) s)
-    unfolding reading.digits
-    digits-more n e f = rw (drop-here s i h, e, le-leb _ _ f, reading.digits)
-
-    pub digits-large : (n : ℕ) → reading.isDigit (getD s i 0) ≡ true → limit < n * 10 + (getD s i 0 - 48)
-        → reading.digits (upTo limit) over n (drop i s) ≡ over (drop i s)
-    unfolding reading.digits
-    digits-large n e f = rw (drop-here s i h, e, lt-leb _ _ f, reading.digits)
-
     pub positive-other : reading.isFirst (getD s i 0) ≡ false → reading.positive (upTo limit) over (drop i s) ≡ reading.stop 600 (drop i s)
     unfolding reading.positive
     positive-other e = rw (drop-here s i h, e, reading.positive)
@@ -69,62 +36,10 @@ module _ (limit : ℕ) (over : List ℕ → reading.Read ℕ) (s : List ℕ) (i 
     unfolding reading.positive
     positive-on e = rw (drop-here s i h, e, reading.positive)
 
--- ---- fixed bytes
-
-module _ (w : List ℕ) (i : ℕ) (s : List ℕ) (j : ℕ) where
-  pub word-done : length w ≤ i → reading.word (drop i w) (drop j s) ≡ reading.got tt (drop j s)
-  unfolding reading.word
-  word-done h = rw (drop-of-length-le w h)
-
-  pub word-end : i < length w → length s ≤ j → reading.word (drop i w) (drop j s) ≡ reading.stop 600 (drop j s)
-  unfolding reading.word
-  word-end h k = rw (drop-here w i h, drop-of-length-le s k)
-
-  pub word-other : i < length w → j < length s → (getD s j 0 ≡ getD w i 0 → ⊥) → reading.word (drop i w) (drop j s) ≡ reading.stop 600 (drop j s)
-  unfolding reading.word
-  word-other h k e = rw (drop-here w i h, drop-here s j k, ne-eqb _ _ e, reading.word)
-
-  pub word-more : i < length w → j < length s → getD s j 0 ≡ getD w i 0 → reading.word (drop i w) (drop j s) ≡ reading.word (drop (i + 1) w) (drop (j + 1) s)
-  unfolding reading.word
-  word-more h k e = rw (drop-here w i h, drop-here s j k, eq-eqb _ _ e, reading.word)
-
--- ---- the heading of an `again` form
-
-module _ (t : List ℕ) where
-  pub spaced-stop : (k : ℕ) (r : List ℕ) → reading.count t ≡ reading.stop k r → spaced t ≡ reading.stop k r
-  unfolding spaced reading.then
-  spaced-stop k r e = rw e
-
-  module _ (n : ℕ) (t1 : List ℕ) (e : reading.count t ≡ reading.got n t1) where
-    pub spaced-gap : (k : ℕ) (r : List ℕ) → reading.word (bytes " ") t1 ≡ reading.stop k r → spaced t ≡ reading.stop k r
-    unfolding spaced reading.then
-    spaced-gap k r f = rw (e, f)
-
-    pub spaced-is : (r : List ℕ) → reading.word (bytes " ") t1 ≡ reading.got tt r → spaced t ≡ reading.got n r
-    unfolding spaced reading.then
-    spaced-is r f = rw (e, f)
-
-  pub head-stop : (k : ℕ) (r : List ℕ) → reading.word (bytes "again ") t ≡ reading.stop k r → reading.head t ≡ reading.stop k r
-  unfolding reading.head reading.then
-  head-stop k r e = rw (e, reading.head, reading.then)
-
-  pub head-on : (t1 : List ℕ) → reading.word (bytes "again ") t ≡ reading.got tt t1 → reading.head t ≡ spaced t1
-  unfolding reading.head reading.then spaced
-  head-on t1 e = rw (e, reading.head, reading.then)
-
--- ---- digits as a count
-
 pub decimal-least : (p : Decimal) (a b limit : ℕ) → a ≤ b → DecimalSmall b limit p → DecimalSmall a limit p
 decimal-least (Worth v n) a b limit l h = omega arith
 decimal-least (Missing i) a b limit l h = tt
 decimal-least (Over i) a b limit l h = tt
-
-pub count-says : (s : List ℕ) (i : ℕ) (p : Decimal) → PositiveSays s i 64 p → DecimalInside (i + 1) (length s) p → DecimalSmall 1 64 p
-    → (countedOf s (limitedOf p) ≡ reading.count (drop i s)) × (CountedInside i (length s) (limitedOf p) × CountedSmall (limitedOf p))
-unfolding PositiveSays
-count-says s i (Worth v n) q w k = (q (λ r. reading.stop 600 r), (omega arith, k))
-count-says s i (Missing a) q w k = (q (λ r. reading.stop 600 r), (w, tt))
-count-says s i (Over a) q w k = (q (λ r. reading.stop 600 r), (w, tt))
 
 -- ---- digits as a number that starts at i
 

@@ -1,2 +1,1 @@
--- What the readings' answers say. Assumes nothing.
 pub mod Says

@@ -43,8 +43,8 @@ pub fn number_of(n: SheetNumbers, points: &[i64], start: &[i64], end: &[i64]) ->
     let mut first = [0.0; 24];
     let mut last = [0.0; 24];
     sheet_columns::prepare(n, points, start, end, &mut waypoints, &mut first, &mut last);
-    let config = sheet_columns::config_of(n);
-    let cells = sheet_columns::cells_of(n);
+    let config = sheet_config::config_of(n);
+    let cells = sheet_config::cells_of(n);
     let axes = n.axes;
     let count = n.points;
     let all = count * axes;

@@ -30,18 +30,19 @@ use Rattle.rules.specs.SheetFaults.{
   judge,
 }
 use Rattle.sheet_numbers.proofs.Steps.{kept, near-kept}
-use Rattle.sheet_axis.specs.Says.{Stops, placeOf}
+use Rattle.sheet_axis.specs.Says.{Stops}
+use Rattle.sheet_sizes.specs.Sizes.{placeOf}
 use Rattle.sheet_axis.proofs.Joins.{pair-fails, pair-reads, pair-stops}
-use Rattle.sheet_axes.specs.declared.AxesSizes.{AxesSizes}
+use Rattle.sheet_sizes.specs.declared.AxesSizes.{AxesSizes}
 use Rattle.sheet_axes.specs.declared.AxesRead.{AxesRead}
 use Rattle.sheet_axes.specs.declared.AxesRead.the-variants as axesRead
 use Rattle.sheet_axes.specs.Says.{firstPlace, AxesTo, AxesSay}
-use Rattle.sheet_reader.specs.declared.HeadingRead.{HeadingRead}
-use Rattle.sheet_reader.specs.declared.HeadingRead.the-variants as headingRead
+use Rattle.sheet_heading.specs.declared.HeadingRead.{HeadingRead}
+use Rattle.sheet_heading.specs.declared.HeadingRead.the-variants as headingRead
 use Rattle.sheet_reader.specs.declared.WholeRead.{WholeRead}
 use Rattle.sheet_reader.specs.declared.WholeRead.the-variants as wholeRead
-use Rattle.sheet_reader.specs.declared.SheetRead.the-variants as sheetRead
-use Rattle.sheet_reader.specs.Says.{HeadingTo, HeadingSays, WholeSays, answerOf, cutOf, SheetSays}
+use Rattle.sheet_heading.specs.Says.{HeadingTo, HeadingSays}
+use Rattle.sheet_reader.specs.Says.{WholeSays, answerOf, cutOf, SheetSays}
 
 -- ---- the first refusal for a size has a number other than 0
 

@@ -37,8 +37,8 @@ pub fn build_read(
     let mut first = [0.0; 24];
     let mut last = [0.0; 24];
     sheet_columns::prepare(n, points, start, end, &mut waypoints, &mut first, &mut last);
-    let config = sheet_columns::config_of(n);
-    let room = lesser(coeffs.len(), sheet_columns::cells_of(n));
+    let config = sheet_config::config_of(n);
+    let room = lesser(coeffs.len(), sheet_config::cells_of(n));
     let axes = n.axes;
     let count = n.points;
     let all = count * axes;

@@ -6,10 +6,10 @@ use rules::BuildAnswer;
 use rules::OutOfRangeMode;
 use rules::PathParam;
 use rules::SplineConfig;
-use test_common::read;
-use test_common::read::Name;
 use test_common::seen;
 use test_common::seen::Seen;
+use test_input::read;
+use test_input::read::Name;
 
 // Kinds: 0 none, 1 given, 2 given per unit of s.
 fn next_state() -> BoundaryState {

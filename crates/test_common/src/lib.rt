@@ -1,5 +1,3 @@
-// What the programs have in common that try the library out: a float's bits, calls and expected answers read from
-// standard input, and what was seen of them compared, counted and printed.
-pub mod bits;
-pub mod read;
+// What the programs have in common that try the library out: what was seen of a call, compared with what test_input reads, counted
+// and printed.
 pub mod seen;

@@ -1,8 +1,8 @@
 // What was seen: expected answers are read and compared with what a call gave, and counted.
-use crate::bits;
-use crate::read;
-use crate::read::Name;
 use libc::STDOUT_FILENO;
+use test_input::bits;
+use test_input::read;
+use test_input::read::Name;
 
 // The calls there were, the numbers that were compared, and those that were not as expected. (Sums that wrap: nothing is
 // to be proved of them, and they never get that far.)
@@ -36,7 +36,7 @@ fn compared(seen: Seen, counts: bool, is_unlike: bool) -> Seen {
 }
 
 // A call more, and its first number.
-fn called(seen: Seen, is_unlike: bool) -> Seen {
+pub fn called(seen: Seen, is_unlike: bool) -> Seen {
     Seen {
         calls: more(seen.calls, true),
         numbers: more(seen.numbers, true),

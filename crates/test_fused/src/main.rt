@@ -1,10 +1,10 @@
 // Makes the fused multiply-adds that standard input has, and compares each result, bit for bit, with the one that stands
 // beside its operands. The first lines of the input say how they are written. Prints the names of families in
 // which a result is otherwise, and how many there were.
-use test_common::read;
-use test_common::read::Name;
 use test_common::seen;
 use test_common::seen::Seen;
+use test_input::read;
+use test_input::read::Name;
 
 fn next_result() -> f64 {
     fused::mul_add(read::cell(), read::cell(), read::cell())

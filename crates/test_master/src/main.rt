@@ -2,10 +2,10 @@
 // 0 for no, 1 for yes, else the refusal's number. The first lines of the input say how a call is written. Prints
 // the names of sets of which a check was answered otherwise, and how many checks there were.
 use rules::MasterAnswer;
-use test_common::read;
-use test_common::read::Name;
 use test_common::seen;
 use test_common::seen::Seen;
+use test_input::read;
+use test_input::read::Name;
 
 // How many waypoints there are, how many numbers of the start, of the end and of the table, and of all four.
 struct Lengths {

@@ -8,10 +8,10 @@ mod table;
 
 use rules::PathParam;
 use rules::PathRecord;
-use test_common::read;
-use test_common::read::Name;
 use test_common::seen;
 use test_common::seen::Seen;
+use test_input::read;
+use test_input::read::Name;
 
 fn next_path() -> PathRecord {
     PathRecord {

@@ -2,8 +2,8 @@
 // each number is 48271 times the last one, modulo 2^31 - 1, and two of them in turn are the 62 binary digits of
 // a coefficient.
 ghost use Prim.Native.Nat.{_<_};
-use test_common::bits;
-use test_common::read;
+use test_input::bits;
+use test_input::read;
 
 fn next(x: u64) -> u64
     ensures { λ r. ⌜ r < 2147483648 ⌝ }

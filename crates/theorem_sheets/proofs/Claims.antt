@@ -13,7 +13,7 @@ use Rattle.rules.specs.SheetFaults.{Refusal, refusal, readable, refused, sizes,
 use Rattle.sheet_laws.proofs.Exact.{Out, reads, faults, other, Complete}
 use Rattle.sheet_laws.proofs.Limits.{within-small, within-shorter}
 use Rattle.theorem_sheets.specs.Sheets.{AcceptedAreSheets, JudgedAreSheets, OneReading}
-use Rattle.theorem_sheets.proofs.Whole.{Exactly, Last, sheet-exact}
+use Rattle.sheet_laws.proofs.Whole.{Exactly, Last, sheet-exact}
 
 pub free-exact : Exactly spellSheet Free (readSheet unlimited unlimited) (readSheet unlimited unlimited) Last
 free-exact = sheet-exact unlimited unlimited (λ d h. refl) (λ n d h. refl)

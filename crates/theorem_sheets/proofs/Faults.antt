@@ -14,11 +14,11 @@ use Rattle.rules.specs.SheetFaults.{Refusal, refusal, Dead, refused, sizes, siz
 use Rattle.sheet_laws.proofs.Exact.{Fault, Out, reads, faults, other}
 use Rattle.sheet_laws.proofs.Short.{rest}
 use Rattle.theorem_sheets.specs.Sheets.{FaultsPlace}
-use Rattle.theorem_sheets.proofs.Limits.{Limit, Beside, agree, fail, limits}
-use Rattle.theorem_sheets.proofs.LimitItems.{clash}
-use Rattle.theorem_sheets.proofs.Whole.{Last}
+use Rattle.sheet_laws.proofs.Beside.{Limit, Beside, agree, fail, limits}
+use Rattle.sheet_laws.proofs.LimitItems.{clash}
+use Rattle.sheet_laws.proofs.Whole.{Last}
 use Rattle.theorem_sheets.proofs.Claims.{free-exact, limited-exact, read-free, accepts, accepted, judge-short}
-use Rattle.theorem_sheets.proofs.Places.{Rising, sizes-rising}
+use Rattle.sheet_laws.proofs.Places.{Rising, sizes-rising}
 
 -- the reading without limits
 abbrev pub freely : List ℕ → Read Sheet

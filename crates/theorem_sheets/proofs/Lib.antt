@@ -1,10 +1,5 @@
-pub mod Limits
-pub mod LimitItems
-pub mod Whole
 pub mod Claims
-pub mod Places
 pub mod Faults
-pub mod Found
 pub mod Precedence
 pub mod Facts
 pub mod Numbers

@@ -15,12 +15,12 @@ use Rattle.rules.specs.SheetFaults.{Refusal, refusal, beyondSheet, Dead, Passed
 use Rattle.sheet_laws.proofs.Exact.{Out, reads, faults, other}
 use Rattle.sheet_laws.proofs.Short.{rest}
 use Rattle.theorem_sheets.specs.Sheets.{FirstOfThreeIsFound, FirstOfThreeIsOne, SizesAreEarliest, RefusalsAreEarliest}
-use Rattle.theorem_sheets.proofs.Limits.{Limit, Beside, agree, fail, limits}
-use Rattle.theorem_sheets.proofs.LimitItems.{clash}
-use Rattle.theorem_sheets.proofs.Whole.{Last}
+use Rattle.sheet_laws.proofs.Beside.{Limit, Beside, agree, fail, limits}
+use Rattle.sheet_laws.proofs.LimitItems.{clash}
+use Rattle.sheet_laws.proofs.Whole.{Last}
 use Rattle.theorem_sheets.proofs.Claims.{free-exact, limited-exact, accepts, accepted, judge-short}
-use Rattle.theorem_sheets.proofs.Places.{Rising, earliest, same-number, sheet-rising, sizes-rising}
-use Rattle.theorem_sheets.proofs.Found.{Found, none, first, sheet-finds}
+use Rattle.sheet_laws.proofs.Places.{Rising, earliest, same-number, sheet-rising, sizes-rising}
+use Rattle.sheet_laws.proofs.Found.{Found, none, first, sheet-finds}
 use Rattle.theorem_sheets.proofs.Faults.{freely, SheetBeside, sheet-beside, limit-stops, spelled-freely, limited-free, free-dead, free-stops, whole-dead}
 
 -- nothing in a sheet within the limits is beyond them

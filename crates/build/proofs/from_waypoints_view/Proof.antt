@@ -13,7 +13,7 @@ use Rattle.rules.specs.declared.PathRecord.{PathRecord}
 use Rattle.rules.specs.Questions.{firstNo}
 use Rattle.rules.specs.Build.{BuildInput, inputQuestions, buildNumber, inputOf}
 use Rattle.rules.proofs.BuildAnswers.{no-number, pivot-number, yes-number, refused-answer, accepted-answer, refused-buffer, accepted-buffer}
-use Rattle.build_axes.specs.AllAxes.{allAxes}
+use Rattle.build_filling.specs.AllAxes.{allAxes}
 use Rattle.build.proofs.InputKnown.{planOf, order-known, points-known, planned, cells-are, table-is}
 use Rattle.build.proofs.from_waypoints_view.Statement.{statement}
 use Rattle.build.proofs.from_waypoints_view.Tie as tie

@@ -4,7 +4,7 @@ use native.Mathlib.Omega.{arith}
 use borrow.Author.Needs.{needs}
 use Rattle.rules.specs.Master.{MasterSet, setOf}
 use Rattle.rules.specs.Questions.{firstNo}
-use Rattle.master.specs.Pass.{questionsBefore}
+use Rattle.master_questions.specs.Asked.{questionsBefore}
 use Rattle.master.proofs.Pass.{shaped, refused, passed}
 use Rattle.master.proofs.check_master.Statement.{statement}
 use Rattle.master.proofs.check_master.Tie as tie

@@ -17,8 +17,8 @@ use Rattle.law_lists.proofs.Lists.{and-assoc, every-more}
 use Rattle.master_equations.specs.Segment.{segmentMeets}
 use Rattle.master.specs.Pass.{meetsUpTo, passSays}
 use Rattle.master.proofs.Pass.{left-next, none-left}
-use Rattle.master_equations.proofs.SegmentPart.{segment-inside}
-use Rattle.master_equations.proofs.SegmentSays.{segment-out, was-out, was-within, was-good}
+use Rattle.master_segments.proofs.SegmentPart.{segment-inside}
+use Rattle.master_segments.proofs.SegmentSays.{segment-out, was-out, was-within, was-good}
 use Rattle.master.proofs.check_segments.Statement.{statement}
 use Rattle.master.proofs.check_segments.Tie as tie
 

@@ -12,8 +12,8 @@ use Rattle.rules.specs.Floats.{_⊗_}
 use Rattle.rules.specs.Query.{writes, evalPoly, perUnitOfS, segmentOf}
 use Rattle.rules.proofs.FilledList as Fills
 use Rattle.rules.proofs.FilledList.{Filled}
-use Rattle.query_poly.specs.declared.Derivatives.{Derivatives}
-use Rattle.query_poly.specs.Level.{asked}
+use Rattle.query_loop.specs.declared.Derivatives.{Derivatives}
+use Rattle.query_loop.specs.Level.{asked}
 use Rattle.query_axes.specs.Evaluation.{derivativeAt}
 use Rattle.query_axes.proofs.AxesLoop as Axes
 use Rattle.law_lists.proofs.Lent.{part-size, part-length}

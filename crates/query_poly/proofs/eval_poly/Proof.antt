@@ -7,7 +7,7 @@ use lib.ListN.{length}
 use Rattle.rules.specs.Build.{validOrder}
 use Rattle.rules.specs.Query.{validLevel, evalPoly}
 use Rattle.rules.proofs.Build.{by-order}
-use Rattle.query_poly.proofs.Levels.{is-3}
+use Rattle.query_loop.proofs.Levels.{is-3}
 use Rattle.query_poly.proofs.eval_poly.Statement.{statement}
 use Rattle.query_poly.proofs.eval_poly.Tie as tie
 

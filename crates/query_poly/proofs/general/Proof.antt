@@ -3,7 +3,7 @@
 use mathlib.Core.Path.{sym, subst}
 use native.Mathlib.Omega.{arith}
 use borrow.Author.Needs.{needs}
-use Rattle.query_poly.specs.declared.Derivatives.{Derivatives}
+use Rattle.query_loop.specs.declared.Derivatives.{Derivatives}
 use Rattle.query_poly.proofs.GeneralLoop.{Looped, start, step, end}
 use Rattle.query_poly.proofs.general.Statement.{statement}
 use Rattle.query_poly.proofs.general.Tie as tie

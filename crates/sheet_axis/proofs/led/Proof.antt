@@ -1,7 +1,7 @@
 -- `sheet_axis::led` meets its contract: the fixed bytes, and then the list. Assumes nothing.
 use borrow.Author.Needs.{needs}
 use native.Mathlib.Omega.{arith}
-use Rattle.sheet_numbers.proofs.Steps.{passed-inside}
+use Rattle.sheet_words.proofs.Steps.{passed-inside}
 use Rattle.sheet_axis.specs.Says.{ListSays}
 use Rattle.sheet_axis.proofs.Joins.{word-reads, word-stops, lead-fails}
 use Rattle.sheet_axis.proofs.Parts.{led-says}

@@ -7,7 +7,7 @@ use mir.Facts.{toZ-ofZ}
 use Rattle.rules.proofs.FilledList.{Filled, none, kept, step, whole}
 use Rattle.sheet_columns.specs.Columns.{numberIn, numberAt}
 use Rattle.sheet_columns.proofs.Columns.{place-inside}
-use Rattle.sheet_columns.proofs.Exact.{exact-cast}
+use Rattle.sheet_config.proofs.Exact.{exact-cast}
 use Rattle.sheet_columns.proofs.column.Statement.{statement}
 use Rattle.sheet_columns.proofs.column.Tie as tie
 

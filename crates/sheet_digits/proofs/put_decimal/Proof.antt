@@ -6,7 +6,7 @@ use native.Mathlib.Omega.{arith}
 use borrow.Author.Needs.{needs}
 use lib.ListN.{length, length-set}
 use Rattle.rules.specs.Sheets.{natural}
-use Rattle.sheet_digits.specs.Written.{written}
+use Rattle.sheet_bits.specs.Written.{written}
 use Rattle.sheet_digits.proofs.Decimal.{length-tenth, some-digit, digit-set, first-set}
 use Rattle.sheet_digits.proofs.put_decimal.Statement.{statement}
 use Rattle.sheet_digits.proofs.put_decimal.Tie as tie

@@ -6,7 +6,7 @@ use native.Mathlib.Omega.{arith}
 use borrow.Author.Needs.{needs}
 use lib.ListN.{length, length-append}
 use Rattle.rules.specs.Sheets.{natural}
-use Rattle.sheet_digits.proofs.Writing.{wrote-both}
+use Rattle.sheet_bits.proofs.Writing.{wrote-both}
 use Rattle.sheet_digits.proofs.put_number.Statement.{statement}
 use Rattle.sheet_digits.proofs.put_number.Tie as tie
 

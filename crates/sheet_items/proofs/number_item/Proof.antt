@@ -3,10 +3,6 @@ use borrow.Author.Needs.{needs}
 use Rattle.sheet_items.proofs.Follow.{number-fault, number-filled}
 use Rattle.sheet_items.proofs.number_item.Statement.{statement}
 use Rattle.sheet_items.proofs.number_item.Tie as tie
-use Rattle.sheet_items.proofs.number_item.Reads as reads
-use Rattle.sheet_items.proofs.number_item.Lts as lts
-use Rattle.sheet_numbers.proofs.number.Reads as number-reads
-use Rattle.sheet_puts.proofs.push.Reads as push-reads
 
 returns : tie.Need-returns
 returns c =

@@ -5,10 +5,11 @@ use native.Mathlib.Omega.{arith}
 use mir.Syntax.{w64}
 use mir.Val.{toZ}
 use mir.Facts.{toZ-pos}
-use Rattle.sheet_numbers.specs.declared.Decimal.{Decimal}
-use Rattle.sheet_numbers.specs.declared.Decimal.the-variants.{Worth}
+use Rattle.sheet_decimals.specs.declared.Decimal.{Decimal}
+use Rattle.sheet_decimals.specs.declared.Decimal.the-variants.{Worth}
 use Rattle.sheet_numbers.specs.declared.Whole.the-variants as whole
-use Rattle.sheet_numbers.specs.Says.{plainOf, DecimalSmall}
+use Rattle.sheet_decimals.specs.Says.{DecimalSmall}
+use Rattle.sheet_numbers.specs.Says.{plainOf}
 use borrow.Author.Needs.{needs}
 use Rattle.sheet_numbers.proofs.plain.Statement.{statement}
 use Rattle.sheet_numbers.proofs.plain.Tie as tie

@@ -10,8 +10,8 @@ use Rattle.law_lists.specs.Lists.{joined}
 use Rattle.law_lists.proofs.Lists.{part-inside}
 use Rattle.law_lists.proofs.Lent.{part-size}
 use Rattle.rules.specs.SheetAnswers.{segLine}
-use Rattle.sheet_digits.specs.Written.{Wrote}
-use Rattle.sheet_digits.proofs.Writing.{wrote-none, wrote-kept, wrote-part, wrote-parts, part-room}
+use Rattle.sheet_bits.specs.Written.{Wrote}
+use Rattle.sheet_bits.proofs.Writing.{wrote-none, wrote-kept, wrote-part, wrote-parts, part-room}
 use Rattle.sheet_output.proofs.put_axis.Statement.{statement}
 use Rattle.sheet_output.proofs.put_axis.Tie as tie
 

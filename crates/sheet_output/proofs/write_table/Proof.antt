@@ -7,10 +7,10 @@ use lib.ListN.{length}
 use Rattle.law_lists.specs.Lists.{joined}
 use Rattle.law_lists.proofs.Lists.{part-inside}
 use Rattle.rules.specs.SheetAnswers.{tableOutput}
-use Rattle.sheet_digits.specs.Written.{Wrote}
-use Rattle.sheet_output.specs.Output.{tableLine, axisLines}
-use Rattle.sheet_digits.proofs.Writing.{wrote-none, wrote-kept, wrote-both, wrote-part, wrote-parts, wrote-all, part-room}
-use Rattle.sheet_output.proofs.Fits.{table-room}
+use Rattle.sheet_bits.specs.Written.{Wrote}
+use Rattle.sheet_lines.specs.Output.{tableLine, axisLines}
+use Rattle.sheet_bits.proofs.Writing.{wrote-none, wrote-kept, wrote-both, wrote-part, wrote-parts, wrote-all, part-room}
+use Rattle.sheet_lines.proofs.Fits.{table-room}
 use Rattle.sheet_output.proofs.write_table.Statement.{statement}
 use Rattle.sheet_output.proofs.write_table.Tie as tie
 

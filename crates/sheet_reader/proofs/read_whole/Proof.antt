@@ -1,6 +1,6 @@
 -- `sheet_reader::read_whole` meets its contract: the heading, and then the axes. Assumes nothing.
 use borrow.Author.Needs.{needs}
-use Rattle.sheet_reader.specs.Says.{HeadingTo}
+use Rattle.sheet_heading.specs.Says.{HeadingTo}
 use Rattle.sheet_reader.proofs.Whole.{heading-stops, heading-to, axes-stop, sized-whole, read-whole}
 use Rattle.sheet_reader.proofs.read_whole.Statement.{statement}
 use Rattle.sheet_reader.proofs.read_whole.Tie as tie

@@ -1,0 +1,2 @@
+pub mod SegmentPart
+pub mod SegmentSays

@@ -1,0 +1,3 @@
+pub mod Enough
+pub mod Output
+pub mod Printed
