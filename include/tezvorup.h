@@ -1,7 +1,7 @@
 /*
  * Interpolating splines of order 3, 5 and 7 for C and C++, from the static library libtezvorup.a (x86-64 Linux).
  * Proved: for every number and every length that a caller gives, what each function answers and what each cell of each
- * buffer holds afterwards. The promises stand in crates/tezvorup/src/lib.rt of the library's text.
+ * buffer holds afterwards. The promises stand in the library's text, in crates/ with these functions.
  *
  * A call that cannot be served gets one refusal number, and every buffer keeps its contents. No function allocates,
  * keeps anything between calls or ends the program. Of the stack spline_build takes some 60 KB, and spline_read_sheet and

@@ -26,7 +26,7 @@
 //! [`from_waypoints_view`], [`build_sheet`] and [`eval_at`] are lent theirs, and allocate nothing. A call that is refused leaves
 //! every buffer as it was. Names are those of copp's `src/path/spline.rs` where it has them.
 //!
-//! What is proved stands in crates/tezvorup/src/lib.rt of the library's text. This package is not proved: it hands each slice
+//! What is proved stands in the library's text, in crates/ with the functions of [`raw`]. This package is not proved: it hands each slice
 //! over as pointer and length, and gives each refusal number its name.
 #![warn(missing_docs)]
 
