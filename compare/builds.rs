@@ -68,7 +68,8 @@ fn rust_number(b: &Build, number: u32) -> Option<u32> {
         Err(PathError::InvalidOrder { .. }) => 302,
         Err(PathError::NotEnoughWaypoints { .. }) => 304,
         Err(PathError::DimensionMismatch) => 303,
-        Err(PathError::SingularSystem) => 307,
+        // no pivot is zero: a number that the library never answers, so that it would be unlike
+        Err(PathError::SingularSystem) => u32::MAX,
     })
 }
 
@@ -196,10 +197,10 @@ fn lists(b: &Build) -> [&[f64]; 3] {
 
 fn count_build(count: &mut Count, b: &Build, mode: u8) -> bool {
     let (answer, after, mut expected, all_kept) = run(b, mode);
-    let path = b.path().expect("the Rust builds it");
-    if coefficients(&path).len() != b.cells {
+    // what passes the questions the Rust builds, too: a SingularSystem of its own would be unlike
+    let Some(path) = b.path().ok().filter(|path| coefficients(path).len() == b.cells) else {
         return false;
-    }
+    };
     lent(&mut expected).copy_from_slice(coefficients(&path));
     let pairs = || after.iter().zip(&expected);
     count.numbers += (b.cells + FIELDS) as u64;

@@ -164,7 +164,7 @@ impl Build {
             _ => self.end = given(axes, m, vec![f64::INFINITY; axes * m]),
         }
     }
-    /// The questions of document 01 but the tenth, in its order.
+    /// The questions of document 01, in its order, without the tenth, which wish 2 of document 02 strikes.
     pub fn number(&self) -> u32 {
         let (m, segments) = (self.order / 2, self.points.saturating_sub(1));
         let finite = |xs: &[f64]| xs.iter().all(|x| x.is_finite());

@@ -227,7 +227,7 @@ spline_answer __real_spline_build(spline_config config, size_t points, size_t ax
 spline_answer __wrap_spline_build(spline_config config, size_t points, size_t axes, const double *waypoints, size_t waypoint_count,
                                   const double *start, size_t start_count, const double *end, size_t end_count,
                                   double *coefficients, size_t coefficient_count) {
-    static const uint32_t numbers[] = {0, 2, 3, 4, 300, 301, 302, 303, 304, 307};
+    static const uint32_t numbers[] = {0, 2, 3, 4, 300, 301, 302, 303, 304};
     static const spline_path none;
     unsigned long long errors = VALGRIND_COUNT_ERRORS;
     List w = lend(waypoints, waypoint_count, 0), s = lend(start, start_count, 0), e = lend(end, end_count, 0);
@@ -297,7 +297,7 @@ spline_check __wrap_spline_check_master(size_t order, const int64_t *waypoints, 
 }
 
 /* The refusal numbers of both functions of sheets. */
-static const uint32_t sheet_numbers[] = {0, 2, 3, 4, 301, 302, 303, 304, 307, 600, 601};
+static const uint32_t sheet_numbers[] = {0, 2, 3, 4, 301, 302, 303, 304, 600, 601};
 
 spline_place __real_spline_read_sheet(const uint8_t *text, size_t text_count);
 

@@ -58,8 +58,6 @@ enum {
     SPLINE_NOT_ENOUGH_WAYPOINTS = 304,
     /* s is NaN, or outside the range in mode Error. */
     SPLINE_OUT_OF_RANGE_S = 305,
-    /* A zero pivot. None has been seen. */
-    SPLINE_SINGULAR_SYSTEM = 307,
     /* A level other than 0, 2 and 3. */
     SPLINE_UNSUPPORTED_DERIVATIVE_ORDER = 308,
     /* A byte that no sheet has there; or the text ends early, or is longer than SPLINE_SHEET_BYTES. */
@@ -150,7 +148,7 @@ double spline_mul_add(double a, double b, double c);
  * coefficients  filled with SPLINE_COEFFICIENTS(order, points, axes) numbers, by axis, then segment, then power. The
  *               first of each segment is its left waypoint
  *
- * Answers SPLINE_OK, or a refusal number, one of 2, 3, 4, 300 to 304 and 307; then coefficients hold what they held.
+ * Answers SPLINE_OK, or a refusal number, one of 2, 3, 4 and 300 to 304; then coefficients hold what they held.
  */
 spline_answer spline_build(spline_config config, size_t points, size_t axes,
                            const double *waypoints, size_t waypoint_count,
@@ -205,8 +203,8 @@ spline_check spline_check_master(size_t order,
  *
  * text          the bytes of the sheet, without an end mark. Only the first SPLINE_SHEET_BYTES are looked at
  *
- * Answers SPLINE_OK, or a refusal number, one of 2, 3, 4, 301 to 304, 307, 600 and 601. Nothing is written. That the
- * sheets taken are exactly these, and the place of each fault, is proved (crates/theorem_sheets/specs).
+ * Answers SPLINE_OK, or a refusal number, one of 2, 3, 4, 301 to 304, 600 and 601. Nothing is written. That the sheets
+ * taken are exactly these, and the place of each fault, is proved (crates/theorem_sheets/specs).
  */
 spline_place spline_read_sheet(const uint8_t *text, size_t text_count);
 
@@ -256,8 +254,6 @@ static inline const char *spline_message(uint32_t number) {
         return "there are fewer than 2 points";
     case SPLINE_OUT_OF_RANGE_S:
         return "s is not a number, or outside the range";
-    case SPLINE_SINGULAR_SYSTEM:
-        return "a pivot is zero";
     case SPLINE_UNSUPPORTED_DERIVATIVE_ORDER:
         return "the level is not 0, 2 or 3";
     case SPLINE_INVALID_SHEET:

@@ -70,8 +70,6 @@ pub enum PathError {
         /// The s given.
         value: f64,
     },
-    /// 307: a zero pivot. None has been seen.
-    SingularSystem,
     /// 308: a level other than 0, 2 and 3.
     UnsupportedDerivativeOrder {
         /// The level given.
@@ -99,7 +97,6 @@ impl PathError {
             PathError::DimensionMismatch => 303,
             PathError::NotEnoughWaypoints { .. } => 304,
             PathError::OutOfRangeS { .. } => 305,
-            PathError::SingularSystem => 307,
             PathError::UnsupportedDerivativeOrder { .. } => 308,
             PathError::InvalidSheet { .. } => 600,
             PathError::SheetTooDeep => 601,
@@ -128,7 +125,6 @@ impl fmt::Display for PathError {
             PathError::DimensionMismatch => write!(f, "dimension mismatch"),
             PathError::NotEnoughWaypoints { n } => write!(f, "not enough waypoints: {n}, expected >= 2"),
             PathError::OutOfRangeS { s_min, s_max, value } => write!(f, "s out of range [{s_min}, {s_max}]: {value}"),
-            PathError::SingularSystem => write!(f, "singular linear system"),
             PathError::UnsupportedDerivativeOrder { requested } => {
                 write!(f, "unsupported derivative order: requested {requested}, expected 0, 2 or 3")
             }
@@ -204,7 +200,6 @@ pub(crate) fn of_build(number: u32, config: &SplineConfig, points: usize, axes: 
         302 => PathError::InvalidOrder { order },
         303 => PathError::DimensionMismatch,
         304 => PathError::NotEnoughWaypoints { n: points },
-        307 => PathError::SingularSystem,
         _ => unlisted(number),
     }
 }
@@ -254,7 +249,6 @@ pub(crate) fn of_sheet(number: u32, at: usize, text: &[u8], cells: usize) -> She
         2 | 3 | 301 | 302 | 304 => of_faultless(number, at, Sheet(text), cells),
         4 => PathError::InvalidArgument { what: "sheet", place: at },
         303 => PathError::DimensionMismatch,
-        307 => PathError::SingularSystem,
         600 => PathError::InvalidSheet { byte: text[..text.len().min(SHEET_BYTES)].get(at).copied() },
         601 => PathError::SheetTooDeep,
         _ => unlisted(number),

@@ -1,4 +1,4 @@
--- What a build may rely on where the questions about its input say yes: how large its numbers are and how long its lists,
+-- What a build may rely on where every question says yes: how large its numbers are and how long its lists,
 -- `planned` and `cells-are`. And the axes' coefficients, as `fill` leaves them, are the table: `table-is`. Assumes nothing.
 use mathlib.Core.Path.{_≡_, sym, ap, ap₂, _∙_}
 use mathlib.Core.Bool.{_&&_}
@@ -12,9 +12,8 @@ use lib.Ieee.{Float}
 use lib.Ieee.Fits.{and-r}
 use Rattle.rules.specs.declared.BoundaryState.{BoundaryState}
 use Rattle.rules.specs.declared.BoundaryState.the-variants.{None, Given}
-use Rattle.rules.specs.Questions.{firstNo}
 use Rattle.rules.specs.Tables.{mOf}
-use Rattle.rules.specs.Build.{BuildInput, validAxes, validState, inputQuestions, acceptedRecord, axisWaypoints, axisState, table}
+use Rattle.rules.specs.Build.{BuildInput, validAxes, validState, buildQuestions, buildNumber, acceptedRecord, axisWaypoints, axisState, table}
 use Rattle.rules.proofs.Questions.{answerAt, said-yes}
 use Rattle.rules.proofs.Build.{by-order, coefficient-count}
 use Rattle.law_lists.proofs.Filling.{joined-ext}
@@ -39,23 +38,23 @@ planOf b inv = record {
   «end_state» = b .config .«end_state»;
 }
 
-module _ (b : BuildInput) (before : List Float) (e : firstNo (inputQuestions b (length before)) ≡ 0) where
-  answered : (k : ℕ) → T (answerAt (inputQuestions b (length before)) k)
-  unfolding inputQuestions
-  answered = said-yes (inputQuestions b (length before)) tt e
+module _ (b : BuildInput) (before : List Float) (e : buildNumber b (length before) ≡ 0) where
+  answered : (k : ℕ) → T (answerAt (buildQuestions b (length before)) k)
+  unfolding buildNumber buildQuestions
+  answered = said-yes (buildQuestions b (length before)) tt e
 
   pub order-known : let order = b .config .order in (1 ≤ order) × (1 ≤ mOf order) × (mOf order ≤ 3)
-  unfolding inputQuestions
+  unfolding buildQuestions
   order-known =
       by-order (λ order. (1 ≤ order) × (1 ≤ mOf order) × (mOf order ≤ 3))
       (omega arith, omega arith, omega arith) (omega arith, omega arith, omega arith) (omega arith, omega arith, omega arith) _ (answered 0)
 
   pub points-known : (2 ≤ b .points) × (b .points ≤ 257)
-  unfolding inputQuestions
+  unfolding buildQuestions
   points-known = (leb→le 2 _ (answered 1), leb→le _ 257 (answered 2))
 
   pub planned : (inv : Float) → Planned (planOf b inv) (b .waypoints) (b .start) (b .end)
-  unfolding inputQuestions validAxes
+  unfolding buildQuestions validAxes
   planned inv =
       let known : (2 ≤ b .points) × (b .points ≤ 257) = points-known in
       record {
@@ -69,7 +68,7 @@ module _ (b : BuildInput) (before : List Float) (e : firstNo (inputQuestions b (
       }
 
   pub cells-are : length before ≡ b .axes * ((b .points - 2 + 1) * (2 * mOf (b .config .order) + 2))
-  unfolding inputQuestions
+  unfolding buildQuestions
   cells-are =
       let known : (2 ≤ b .points) × (b .points ≤ 257) = points-known in
       eqb→eq _ _ (answered 7) ∙ mul-assoc (b .axes) (b .points - 1) (b .config .order + 1)

@@ -50,9 +50,6 @@ pub fn from_waypoints_view(
         start_state,
         end_state,
     };
-    let ok = build_table::fill(plan, waypoints, start, end, coeffs);
-    if !ok {
-        return refused(307); // B10
-    }
+    build_table::fill(plan, waypoints, start, end, coeffs);
     BuildAnswer { number: 0, path }
 }

@@ -6,11 +6,10 @@ ghost use mathlib.Core.List.{List, []};
 ghost use lib.ListN.{length};
 ghost use lib.Ieee.{Float};
 ghost use Rattle.build_factoring.specs.Steps.{eliminatedTo};
-ghost use Rattle.rules.specs.Solve.{entry, eliminated, factor, nonzeroPivots};
+ghost use Rattle.rules.specs.Solve.{entry, eliminated, factor};
 use build_pivots::exchange_entries;
 use build_pivots::exchange_rows;
 use build_pivots::identity;
-use build_pivots::nonzero_pivots;
 use build_pivots::pivot_row;
 
 // R14, R15: row i past row k: the multiplier takes the place of the entry in column k, and what it comes to is
@@ -44,12 +43,10 @@ fn eliminate(m: usize, a: &mut [f64], k: usize)
     }
 }
 
-// The matrix factored in place. A zero pivot is answered and not assumed away: the steps go on as the
-// rules of floats say, and the answer is false.
-pub fn factor(m: usize, a: &mut [f64], rows: &mut [usize]) -> bool
+// The matrix factored in place. A zero pivot would stop nothing: the steps go on as the rules of floats say.
+pub fn factor(m: usize, a: &mut [f64], rows: &mut [usize])
     requires { ⌜ (length (now a) ≡ m * m) × (length (now rows) ≡ m) ⌝ }
-    ensures { λ r. ⌜ (r ≡ nonzeroPivots m (factor m (now (a .entry))))
-        × (now (a .exit) ≡ factor m (now (a .entry)) .entries)
+    ensures { λ r. ⌜ (now (a .exit) ≡ factor m (now (a .entry)) .entries)
         × (now (rows .exit) ≡ factor m (now (a .entry)) .rows) ⌝ }
 {
     identity(rows);
@@ -61,5 +58,4 @@ pub fn factor(m: usize, a: &mut [f64], rows: &mut [usize]) -> bool
         eliminate(m, a, k);
         k += 1;
     }
-    nonzero_pivots(m, a)
 }

@@ -6,8 +6,7 @@ ghost use Prim.Native.Nat.{_+_, _*_, _≤_, _<_};
 ghost use mathlib.Core.List.{_++_};
 ghost use lib.ListN.{length, drop};
 ghost use Rattle.law_lists.specs.Lists.{listed};
-ghost use Rattle.rules.specs.Solve.{matrix, nodeMatrix, nodeFactors, nonzeroPivots};
-ghost use Rattle.rules.specs.Build.{everyPivot};
+ghost use Rattle.rules.specs.Solve.{matrix, nodeMatrix, nodeFactors};
 ghost use Rattle.build_products.specs.Columns.{transposed, HoldsA, HoldsB, HoldsC};
 ghost use Rattle.build_nodes.specs.NodeLists.{Room, nodeEntries, nodeRows, nodeSolved};
 ghost use Rattle.build_nodes.specs.Steps.{nextEntry, SolvedTo};
@@ -63,7 +62,7 @@ fn node_entries(m: usize, i: usize, a: &[f64], b: &[f64], solved: &[f64], out: &
     node_matrix(m, a, b, &solved[before..before + m * m], out);
 }
 
-// R10, B10: inner node i is factored, and C is solved with it. Whether no pivot is zero.
+// R10: inner node i is factored, and C is solved with it.
 fn factor_node(
     m: usize,
     i: usize,
@@ -73,7 +72,7 @@ fn factor_node(
     entries: &mut [f64],
     rows: &mut [usize],
     solved: &mut [f64],
-) -> bool
+)
     requires { ⌜ HoldsA m (now a)
         × HoldsB m (now b)
         × HoldsC m (now c)
@@ -81,19 +80,17 @@ fn factor_node(
         × (length (now rows) ≡ m)
         × ((i + 1) * (m * m) ≤ length (now solved))
         × SolvedTo m i (now solved) ⌝ }
-    ensures { λ r. ⌜ (r ≡ nonzeroPivots m (nodeFactors m i))
-        × (now (entries .exit) ≡ nodeFactors m i .entries)
+    ensures { λ r. ⌜ (now (entries .exit) ≡ nodeFactors m i .entries)
         × (now (rows .exit) ≡ nodeFactors m i .rows)
         × (now (solved .exit) ≡ nodeSolved m (i + 1) ++ drop ((i + 1) * (m * m)) (now (solved .entry))) ⌝ }
 {
     node_entries(m, i, a, b, solved, entries);
-    let ok = build_factoring::factor(m, entries, rows);
+    build_factoring::factor(m, entries, rows);
     let at = i * (m * m);
     build_solving::solve_matrix(m, entries, rows, c, &mut solved[at..at + m * m]);
-    ok
 }
 
-// B10: the inner nodes 0 to n − 1, one after the other. Whether no pivot of any is zero.
+// The inner nodes 0 to n − 1, one after the other.
 pub fn factor_nodes(
     m: usize,
     n: usize,
@@ -103,22 +100,20 @@ pub fn factor_nodes(
     entries: &mut [f64],
     rows: &mut [usize],
     solved: &mut [f64],
-) -> bool
+)
     requires { ⌜ HoldsA m (now a)
         × HoldsB m (now b)
         × HoldsC m (now c)
         × Room m n (now entries) (now rows) (now solved) ⌝ }
-    ensures { λ r. ⌜ (r ≡ everyPivot m n)
-        × (now (entries .exit) ≡ nodeEntries m n ++ drop (n * (m * m)) (now (entries .entry)))
+    ensures { λ r. ⌜ (now (entries .exit) ≡ nodeEntries m n ++ drop (n * (m * m)) (now (entries .entry)))
         × (now (rows .exit) ≡ nodeRows m n ++ drop (n * m) (now (rows .entry)))
         × (now (solved .exit) ≡ nodeSolved m n ++ drop (n * (m * m)) (now (solved .entry))) ⌝ }
 {
-    let mut ok = true;
     let mut i = 0;
     while i < n {
         let at = i * (m * m);
         let row = i * m;
-        let good = factor_node(
+        factor_node(
             m,
             i,
             a,
@@ -128,8 +123,6 @@ pub fn factor_nodes(
             &mut rows[row..row + m],
             solved,
         );
-        ok = ok && good;
         i += 1;
     }
-    ok
 }

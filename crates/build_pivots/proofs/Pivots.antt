@@ -1,12 +1,12 @@
--- The pivot's row found going down a column, and the test of a pivot. Assumes nothing.
+-- The pivot's row found going down a column. Assumes nothing.
 use mathlib.Core.Path.{_≡_, _∙_, ap}
-use mathlib.Core.Bool.{Bool, not, cond}
+use mathlib.Core.Bool.{Bool, cond}
 use mathlib.Core.List.{List}
 use Prim.Native.Nat.{ℕ, suc, _+_, _-_, _*_, _<_}
 use native.Mathlib.Omega.{arith}
 use lib.ListN.{length, getD}
-use lib.Ieee.{Float, nan, lt, eq}
-use Rattle.rules.specs.Floats.{+0, magnitude}
+use lib.Ieee.{Float, nan, lt}
+use Rattle.rules.specs.Floats.{magnitude}
 use Rattle.rules.specs.Solve.{entry, pivotRow}
 use Rattle.rules.proofs.Cells.{entry-read}
 
@@ -22,8 +22,3 @@ pivot-step m a k best next x y t h b l n s p q e =
     let u : x ≡ magnitude (entry m a best k) = p ∙ ap (λ (z : Float). magnitude z) (entry-read m a best k n (omega arith) (omega arith)) in
     let v : y ≡ magnitude (entry m a next k) = q ∙ ap (λ (z : Float). magnitude z) (entry-read m a next k n (omega arith) (omega arith)) in
     rw (d, o, ← s, ← u, ← v, e)
-
--- the test of a pivot, as the code reads it
-pub pivot-test : (m : ℕ) (a : List Float) (k : ℕ) (t : Bool) → length a ≡ m * m → k < m → eq (getD a (k * m + k) nan) +0 ≡ t
-    → not (eq (entry m a k k) +0) ≡ not t
-pivot-test m a k t n h e = ap not (rw (entry-read m a k k n h h) at e)

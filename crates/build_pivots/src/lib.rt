@@ -2,11 +2,10 @@
 // does is said by the definitions of crates/rules/specs/Solve.antt, for every m.
 ghost use mathlib.Core.Path.{_≡_};
 ghost use Prim.Native.Nat.{suc, _+_, _-_, _*_, _≤_, _<_};
-ghost use mathlib.Core.List.{[]};
 ghost use lib.ListN.{length, getD};
 ghost use Rattle.rules.specs.Floats.{magnitude};
 ghost use Rattle.law_lists.specs.Lists.{listed};
-ghost use Rattle.rules.specs.Solve.{entry, pivotRow, exchange, matrix, nonzeroPivots};
+ghost use Rattle.rules.specs.Solve.{entry, pivotRow, exchange, matrix};
 
 // The number without its sign.
 fn magnitude(x: f64) -> f64
@@ -70,19 +69,4 @@ pub fn identity(rows: &mut [usize])
         rows[i] = i;
         i += 1;
     }
-}
-
-// B10: whether every pivot, which is an entry on the diagonal, is other than zero.
-pub fn nonzero_pivots(m: usize, a: &[f64]) -> bool
-    requires { ⌜ length (now a) ≡ m * m ⌝ }
-    ensures { λ r. ⌜ r ≡ nonzeroPivots m (record { entries = now (a .entry); rows = [] }) ⌝ }
-{
-    let mut k = 0;
-    while k < m {
-        if a[k * m + k] == 0.0 {
-            return false;
-        }
-        k += 1;
-    }
-    true
 }

@@ -1,12 +1,11 @@
-// Document 01's questions before a build, 1 to 9: those that are asked of what a caller gives. (Question
-// 10, whether every pivot is other than zero, is answered by factoring; see the crate `build_axes`.) They
-// look at the coefficient buffer's length alone, so that they can be asked without a buffer.
+// Document 01's questions before a build. They look at the coefficient buffer's length alone, so that they can be asked
+// without a buffer.
 ghost use mathlib.Core.Path.{_≡_};
 ghost use Prim.Native.Nat.{_≤_};
 ghost use Rattle.rules.specs.Floats.{finite};
 ghost use Rattle.law_lists.specs.Lists.{all};
 ghost use Rattle.rules.specs.Questions.{firstNo};
-ghost use Rattle.rules.specs.Build.{inputOf, validState, finiteState, inputQuestions};
+ghost use Rattle.rules.specs.Build.{inputOf, validState, finiteState, buildQuestions};
 use build_shape::shape_questions;
 use rules::BoundaryState;
 use rules::SplineConfig;
@@ -62,7 +61,7 @@ fn finite_state(state: BoundaryState, numbers: &[f64]) -> bool
     }
 }
 
-// G4: the number of the first no, and 0 where all nine say yes.
+// G4: the number of the first no, and 0 where all say yes.
 pub fn build_questions(
     config: SplineConfig,
     points: usize,
@@ -73,7 +72,7 @@ pub fn build_questions(
     cells: usize,
 ) -> u32
     ensures { λ r. ⌜ (let b = inputOf config points axes (now (waypoints .entry)) (now (start .entry)) (now (end .entry)) in
-        r ≡ firstNo (inputQuestions b cells)) ⌝ }
+        r ≡ firstNo (buildQuestions b cells)) ⌝ }
 {
     let order = config.order;
     let start_state = config.start_state;

@@ -1,4 +1,4 @@
--- The questions before a build that are asked of counts alone; they are the first five of `inputQuestions` of crates/rules/specs/Build.antt. Assumes nothing.
+-- The questions before a build that are asked of counts alone; they are the first five of `buildQuestions` of crates/rules/specs/Build.antt. Assumes nothing.
 use mathlib.Core.List.{List, [], _∷_, _++_}
 use Prim.Native.Nat.{ℕ, _*_}
 use lib.Dec.{eqb}

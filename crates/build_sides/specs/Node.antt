@@ -11,6 +11,7 @@ use Rattle.rules.specs.Solve.{times, minus, nodeFactors}
 use Rattle.rules.specs.Build.{boundedSide, solvedSide}
 use Rattle.build_products.specs.Columns.{HoldsA, HoldsC, HoldsR}
 use Rattle.build_plan.specs.declared.Plan.{Plan}
+use Rattle.theorem_pivots.specs.Repeating.{settled}
 
 -- what the right side at inner node i is made of, and room for it
 pub record SideLent (p : Plan) (r a c boundary : List Float) (i : ℕ) (side : List Float) : Type 0 where
@@ -22,12 +23,12 @@ pub record SideLent (p : Plan) (r a c boundary : List Float) (i : ℕ) (side : L
   pub inner : i < p .n
   pub room : length side ≡ p .m
 
--- the factored matrix of an inner node and its rows, among those of all
+-- the factored matrix of an inner node and its rows, among those that differ
 pub record NodeAt (m i : ℕ) (entries : List Float) (rows : List ℕ) : Type 0 where
-  pub entries-is : take (m * m) (drop (i * (m * m)) entries) ≡ nodeFactors m i .entries
-  pub entries-inside : i * (m * m) + m * m ≤ length entries
-  pub rows-is : take m (drop (i * m) rows) ≡ nodeFactors m i .rows
-  pub rows-inside : i * m + m ≤ length rows
+  pub entries-is : take (m * m) (drop (settled m i * (m * m)) entries) ≡ nodeFactors m i .entries
+  pub entries-inside : settled m i * (m * m) + m * m ≤ length entries
+  pub rows-is : take m (drop (settled m i * m) rows) ≡ nodeFactors m i .rows
+  pub rows-inside : settled m i * m + m ≤ length rows
 
 -- the i-th m numbers of a list
 abbrev pub part : ℕ → List Float → ℕ → List Float

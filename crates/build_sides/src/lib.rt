@@ -13,6 +13,7 @@ ghost use Rattle.build_plan.specs.Given.{firstOf, lastOf};
 ghost use Rattle.build_sides.specs.Node.{SideLent, NodeAt, part, put, fullSide};
 use build_plan::Plan;
 use build_rhs::compute_rhs;
+use build_settled::settled;
 
 // v − a·u where it is asked for, and else v; a is kept by columns.
 fn subtract_where(on: bool, m: usize, a: &[f64], u: &[f64], v: &mut [f64])
@@ -93,7 +94,7 @@ pub fn full_side(
     subtract_where(0 < i, m, a, &solved[last..last + m], side);
 }
 
-// R10: a right side solved with the factored matrix of inner node i, into its place.
+// R10, Z3: a right side solved with the factored matrix of inner node i, into its place.
 pub fn solve_node(
     m: usize,
     i: usize,
@@ -107,13 +108,15 @@ pub fn solve_node(
         × (i * m + m ≤ length (now solved)) ⌝ }
     ensures { λ x. ⌜ now (solved .exit) ≡ put m i (solve m (nodeFactors m i) (now (side .entry))) (now (solved .entry)) ⌝ }
 {
-    let at = i * (m * m);
-    let row = i * m;
+    let k = settled(m, i);
+    let at = k * (m * m);
+    let row = k * m;
+    let out = i * m;
     build_solving::solve(
         m,
         &entries[at..at + m * m],
         &rows[row..row + m],
         side,
-        &mut solved[row..row + m],
+        &mut solved[out..out + m],
     );
 }

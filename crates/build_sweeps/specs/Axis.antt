@@ -9,6 +9,7 @@ use Rattle.rules.specs.Solve.{nodeFactors, solvedC}
 use Rattle.rules.specs.Build.{ofAxis}
 use Rattle.build_products.specs.Columns.{transposed, HoldsA, HoldsC, HoldsR}
 use Rattle.build_plan.specs.declared.Plan.{Plan}
+use Rattle.theorem_pivots.specs.Repeating.{settled, distinct}
 
 -- the waypoints of an axis, of those of all axes
 abbrev pub waypointsOf : Plan → List Float → ℕ → List Float
@@ -19,17 +20,17 @@ pub record AxisOf (p : Plan) (axis : ℕ) (waypoints : List Float) : Type 0 wher
   pub axis-below : axis < p .axes
   pub waypoints-length : length waypoints ≡ (p .n + 2) * p .axes
 
--- of n inner nodes, one after the other: the factored matrices and their rows
+-- of n inner nodes, those that differ one after the other: the factored matrices and their rows
 pub record NodeFactors (m n : ℕ) (entries : List Float) (rows : List ℕ) : Type 0 where
-  pub entries-at : (i : ℕ) → i < n → take (m * m) (drop (i * (m * m)) entries) ≡ nodeFactors m i .entries
-  pub entries-length : n * (m * m) ≤ length entries
-  pub rows-at : (i : ℕ) → i < n → take m (drop (i * m) rows) ≡ nodeFactors m i .rows
-  pub rows-length : n * m ≤ length rows
+  pub entries-at : (i : ℕ) → i < n → take (m * m) (drop (settled m i * (m * m)) entries) ≡ nodeFactors m i .entries
+  pub entries-length : distinct m n * (m * m) ≤ length entries
+  pub rows-at : (i : ℕ) → i < n → take m (drop (settled m i * m) rows) ≡ nodeFactors m i .rows
+  pub rows-length : distinct m n * m ≤ length rows
 
 -- and solved C by columns
 pub record NodeSolved (m n : ℕ) (solved : List Float) : Type 0 where
-  pub solved-at : (i : ℕ) → i < n → take (m * m) (drop (i * (m * m)) solved) ≡ transposed m (solvedC m i)
-  pub solved-length : n * (m * m) ≤ length solved
+  pub solved-at : (i : ℕ) → i < n → take (m * m) (drop (settled m i * (m * m)) solved) ≡ transposed m (solvedC m i)
+  pub solved-length : distinct m n * (m * m) ≤ length solved
 
 -- what the right sides of an axis are solved with: R, A and C, the nodes' matrices, the waypoints, both ends, and room
 pub record SweepLent (p : Plan) (r a c entries : List Float) (rows : List ℕ) (waypoints : List Float)

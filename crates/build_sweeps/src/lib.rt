@@ -14,6 +14,7 @@ ghost use Rattle.build_sides.specs.Node.{part, put};
 ghost use Rattle.build_sweeps.specs.Axis.{waypointsOf, NodeSolved, SweepLent};
 use build_plan::Plan;
 use build_rhs::dy;
+use build_settled::settled;
 use build_sides::full_side;
 use build_sides::solve_node;
 
@@ -53,7 +54,7 @@ pub fn forward_sweep(
     }
 }
 
-// R11: "Back: u = solved right side − solved C · next u", at inner node i. The next node's numbers are copied, since
+// R11, Z3: "Back: u = solved right side − solved C · next u", at inner node i. The next node's numbers are copied, since
 // two parts of one list are not lent at a time.
 fn back_step(m: usize, solved_c: &[f64], i: usize, next: &mut [f64], solved: &mut [f64])
     requires { ⌜ (1 ≤ m)
@@ -63,7 +64,7 @@ fn back_step(m: usize, solved_c: &[f64], i: usize, next: &mut [f64], solved: &mu
     ensures { λ x. ⌜ (let before = now (solved .entry) in
         now (solved .exit) ≡ put m i (minus m (part m before i) (times m (solvedC m i) (part m before (i + 1)))) before) ⌝ }
 {
-    let at = i * (m * m);
+    let at = settled(m, i) * (m * m);
     let row = i * m;
     let after = row + m;
     build_products::copy(&solved[after..after + m], next);

@@ -1,20 +1,17 @@
 // The table of a build: the lists per node, which factoring and filling (crates/build_axes) are lent.
 ghost use mathlib.Core.Path.{_≡_};
-ghost use mathlib.Core.Bool.{cond};
 ghost use Prim.Native.Nat.{_+_, _*_};
 ghost use lib.ListN.{length};
-ghost use Rattle.rules.specs.Build.{everyPivot};
 ghost use Rattle.build_plan.specs.Given.{Planned};
 ghost use Rattle.build_filling.specs.AllAxes.{allAxes};
 use build_plan::Plan;
 
-// F10: "Lists per node: fixed arrays for 255 nodes." A curve with fewer nodes has shorter ones, since an array is set to
-// zero before it is used; two points have no inner node.
-pub fn fill(plan: Plan, waypoints: &[f64], start: &[f64], end: &[f64], coeffs: &mut [f64]) -> bool
+// F10: "Lists per node: fixed arrays for 255 nodes", of whose matrices at most 91 differ. A curve with fewer nodes has
+// shorter ones, since an array is set to zero before it is used; two points have no inner node.
+pub fn fill(plan: Plan, waypoints: &[f64], start: &[f64], end: &[f64], coeffs: &mut [f64])
     requires { ⌜ Planned plan (now waypoints) (now start) (now end)
         × (length (now coeffs) ≡ plan .axes * ((plan .n + 1) * (2 * plan .m + 2))) ⌝ }
-    ensures { λ ok. ⌜ (ok ≡ everyPivot (plan .m) (plan .n))
-        × (now (coeffs .exit) ≡ cond ok (allAxes plan (now (waypoints .entry)) (now (start .entry)) (now (end .entry))) (now (coeffs .entry))) ⌝ }
+    ensures { λ x. ⌜ now (coeffs .exit) ≡ allAxes plan (now (waypoints .entry)) (now (start .entry)) (now (end .entry)) ⌝ }
 {
     let n = plan.n;
     if n == 0 {
@@ -22,7 +19,7 @@ pub fn fill(plan: Plan, waypoints: &[f64], start: &[f64], end: &[f64], coeffs: &
         let mut rows = [0; 1];
         let mut solved_c = [0.0; 1];
         let mut solved = [0.0; 1];
-        return build_axes::solve_general_thomas(
+        build_axes::solve_general_thomas(
             plan,
             waypoints,
             start,
@@ -33,13 +30,14 @@ pub fn fill(plan: Plan, waypoints: &[f64], start: &[f64], end: &[f64], coeffs: &
             &mut solved,
             coeffs,
         );
+        return;
     }
     if n <= 30 {
         let mut entries = [0.0; 270];
         let mut rows = [0; 90];
         let mut solved_c = [0.0; 270];
         let mut solved = [0.0; 90];
-        return build_axes::solve_general_thomas(
+        build_axes::solve_general_thomas(
             plan,
             waypoints,
             start,
@@ -50,10 +48,11 @@ pub fn fill(plan: Plan, waypoints: &[f64], start: &[f64], end: &[f64], coeffs: &
             &mut solved,
             coeffs,
         );
+        return;
     }
-    let mut entries = [0.0; 2295];
-    let mut rows = [0; 765];
-    let mut solved_c = [0.0; 2295];
+    let mut entries = [0.0; 819];
+    let mut rows = [0; 273];
+    let mut solved_c = [0.0; 819];
     let mut solved = [0.0; 765];
     build_axes::solve_general_thomas(
         plan,
@@ -65,5 +64,5 @@ pub fn fill(plan: Plan, waypoints: &[f64], start: &[f64], end: &[f64], coeffs: &
         &mut solved_c,
         &mut solved,
         coeffs,
-    )
+    );
 }

@@ -12,8 +12,8 @@ use lib.ListN.{length, length-append}
 use lib.Ieee.{Float}
 use Rattle.rules.specs.declared.BoundaryState.{BoundaryState}
 use Rattle.rules.specs.Tables.{mOf}
-use Rattle.rules.specs.Build.{BuildInput, validOrder, tableLength, buildQuestions, inputQuestions}
-use Rattle.rules.specs.Build.{pivotQuestions, buildNumber, segmentCoefficients, solvedSide, innerNumbers}
+use Rattle.rules.specs.Build.{BuildInput, validOrder, tableLength, buildQuestions}
+use Rattle.rules.specs.Build.{buildNumber, segmentCoefficients, solvedSide, innerNumbers}
 use Rattle.rules.specs.Build.{nodeNumbers, axisCoefficients, axisState, table, bufferAfter}
 use Rattle.law_lists.proofs.Lists.{length-listed, length-joined}
 use Rattle.rules.proofs.Questions.{answerAt, said-yes}
@@ -94,7 +94,7 @@ length-table b t h =
 
 -- by questions 1, 2 and 7, the last of which stands behind two questions about states
 accepted-length : (b : BuildInput) (cells : ℕ) → buildNumber b cells ≡ 0 → length (table b) ≡ cells
-unfolding buildNumber buildQuestions inputQuestions pivotQuestions
+unfolding buildNumber buildQuestions
 accepted-length b cells e =
     let yes-to : (k : ℕ) → T (answerAt (buildQuestions b cells) k) = said-yes (buildQuestions b cells) tt e in
     length-table b (yes-to 0) (leb→le 2 (b .points) (yes-to 1)) ∙ sym (eqb→eq cells _ (yes-to 7))

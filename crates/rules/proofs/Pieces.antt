@@ -7,10 +7,10 @@ use Rattle.law_lists.specs.Lists.{joined, listed, all, every}
 use Rattle.rules.specs.Questions.{firstNo}
 use Rattle.rules.specs.Fused.{exactProduct, fused}
 use Rattle.rules.specs.Tables.{m1, m2, m3, forOrder}
-use Rattle.rules.specs.Solve.{matrix, times, minus, pivotRow, exchange, exchanged, eliminated, factorSteps, factor, nonzeroPivots}
+use Rattle.rules.specs.Solve.{matrix, times, minus, pivotRow, exchange, exchanged, eliminated, factorSteps, factor}
 use Rattle.rules.specs.Solve.{forward, backward, solve, column, solveMatrix, nodeMatrix, nodeFactors, solvedC}
 use Rattle.rules.specs.Build.{validOrder, validAxes, validState, invDs, validRange, finiteState}
-use Rattle.rules.specs.Build.{everyPivot, buildQuestions, inputQuestions, pivotQuestions, buildNumber}
+use Rattle.rules.specs.Build.{buildQuestions, buildNumber}
 use Rattle.rules.specs.Build.{acceptedRecord, refusedRecord, buildAnswer, dy, upperCoefficient, segmentCoefficients, rightSide, boundedSide, solvedSide}
 use Rattle.rules.specs.Build.{innerNumbers, nodeNumbers, axisCoefficients, divided, boundaryNumber, axisWaypoints, axisState, table, bufferAfter}
 use Rattle.rules.specs.Query.{validLevel, inRange, queryQuestions, pathQuestions, bufferQuestions, rangeQuestions}
@@ -26,9 +26,9 @@ use Rattle.rules.specs.Pieces.{oneEach, curve, atRest, starting, setOfD,
 both : T (all holds starred) × T (all holds further)
 unfolding holds input buildOf exactly alike allAlike tableOf queryOf oneEach curve atRest starting setOfD greatest starred further
     add sub mul div neg lt eq le ofInt isNan toBits sumOf joined listed all every firstNo exactProduct fused m1 m2 m3 forOrder
-    matrix times minus pivotRow exchange exchanged eliminated factorSteps factor nonzeroPivots
+    matrix times minus pivotRow exchange exchanged eliminated factorSteps factor
     forward backward solve column solveMatrix nodeMatrix nodeFactors solvedC
-    validOrder validAxes validState invDs validRange finiteState everyPivot buildQuestions inputQuestions pivotQuestions buildNumber
+    validOrder validAxes validState invDs validRange finiteState buildQuestions buildNumber
     acceptedRecord refusedRecord buildAnswer dy upperCoefficient segmentCoefficients rightSide boundedSide solvedSide
     innerNumbers nodeNumbers axisCoefficients divided boundaryNumber axisWaypoints axisState table bufferAfter
     validLevel inRange queryQuestions pathQuestions bufferQuestions rangeQuestions queryNumber clamped scaled wholePart exactRest located lookup lookupSays

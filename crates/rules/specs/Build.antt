@@ -13,10 +13,10 @@ use Rattle.rules.specs.declared.SplineConfig.{SplineConfig}
 use Rattle.rules.specs.declared.PathRecord.{PathRecord}
 use Rattle.rules.specs.declared.BuildAnswer.{BuildAnswer}
 use Rattle.rules.specs.Floats.{_⊕_, _⊖_, _⊗_, _⊘_, _!_, +0, ofCount, finite, sumOf}
-use Rattle.law_lists.specs.Lists.{joined, listed, all, every}
+use Rattle.law_lists.specs.Lists.{joined, listed, all}
 use Rattle.rules.specs.Questions.{Question, ask, firstNo}
 use Rattle.rules.specs.Tables.{mOf, A, C, R, H}
-use Rattle.rules.specs.Solve.{entry, times, minus, solve, nonzeroPivots, nodeFactors, solvedC}
+use Rattle.rules.specs.Solve.{entry, times, minus, solve, nodeFactors, solvedC}
 
 -- What a build is given, the coefficient buffer aside.
 pub record BuildInput : Type 0 where
@@ -67,13 +67,9 @@ unfoldable pub finiteState : BoundaryState → List Float → Bool
 finiteState None numbers = true
 finiteState (Given rows columns perUnit) numbers = all finite numbers
 
--- B10: "Is every pivot other than zero?": of the matrix at each of n inner nodes, which are the points between the first and the last
-unfoldable pub everyPivot : ℕ → ℕ → Bool
-everyPivot m n = every n (λ i. nonzeroPivots m (nodeFactors m i))
-
--- the questions about what a build is given, into a buffer of so many cells, in order
-unfoldable pub inputQuestions : BuildInput → ℕ → List Question
-inputQuestions b cells =
+-- the questions about what a build is given, into a buffer of so many cells, in order. (Question 10 is struck: crates/theorem_pivots.)
+unfoldable pub buildQuestions : BuildInput → ℕ → List Question
+buildQuestions b cells =
     let cfg = b .config in
     let m = mOf (cfg .order) in
     let segments = b .points - 1 in
@@ -87,14 +83,6 @@ inputQuestions b cells =
     ask (eqb cells (tableLength (b .axes) segments (cfg .order))) 2 ∷  -- B7
     ask (validRange segments (cfg .«s_min») (cfg .«s_max»)) 301 ∷  -- B8
     ask (all finite (b .waypoints) && finiteState (cfg .«start_state») (b .start) && finiteState (cfg .«end_state») (b .end)) 4 ∷ []  -- B9
-
--- about what factoring finds
-unfoldable pub pivotQuestions : BuildInput → List Question
-pivotQuestions b = ask (everyPivot (mOf (b .config .order)) (b .points - 2)) 307 ∷ []  -- B10
-
--- all questions before a build
-unfoldable pub buildQuestions : BuildInput → ℕ → List Question
-buildQuestions b cells = inputQuestions b cells ++ pivotQuestions b
 
 unfoldable pub buildNumber : BuildInput → ℕ → ℕ
 buildNumber b cells = firstNo (buildQuestions b cells)
@@ -213,6 +201,6 @@ table b = joined (b .axes) (λ axis.
     (axisState b (b .config .«start_state») (b .start) axis)
     (axisState b (b .config .«end_state») (b .end) axis))
 
--- D1, D2a, B14, B16: the buffer afterwards: "The buffer holds the coefficients"; at a refusal "the buffer is untouched, also at question 10"
+-- D1, D2a, B14, B16: the buffer afterwards: "The buffer holds the coefficients"; at a refusal "the buffer is untouched"
 unfoldable pub bufferAfter : BuildInput → List Float → List Float
 bufferAfter b before = cond (eqb (buildNumber b (length before)) 0) (table b) before

@@ -1,13 +1,13 @@
 -- Small factoring and solving, module 4 of document 01: m rows, with m as a parameter. A matrix is a list, row by row. A step gives the new matrix or list
 -- place by place from the old one. Assumes nothing.
 use Prim.Native.Nat.{ℕ, zero, suc, _+_, _*_, _-_}
-use mathlib.Core.Bool.{Bool, cond, not, _||_}
+use mathlib.Core.Bool.{cond, _||_}
 use mathlib.Core.List.{List, []}
 use lib.ListN.{getD}
 use lib.Dec.{leb, ltb, eqb}
-use lib.Ieee.{Float, lt, eq}
-use Rattle.rules.specs.Floats.{_⊖_, _⊗_, _⊘_, _!_, +0, +1, magnitude, sumOf}
-use Rattle.law_lists.specs.Lists.{joined, listed, every}
+use lib.Ieee.{Float, lt}
+use Rattle.rules.specs.Floats.{_⊖_, _⊗_, _⊘_, _!_, +1, magnitude, sumOf}
+use Rattle.law_lists.specs.Lists.{joined, listed}
 use Rattle.rules.specs.Tables.{A, B, C}
 
 -- ---- matrices, and lists of m numbers
@@ -79,10 +79,6 @@ factorSteps m a (suc k) =
 unfoldable pub factor : ℕ → List Float → Factored
 factor m a = factorSteps m a m
 
--- B10: "Is every pivot other than zero?" The pivots are the diagonal of the factored matrix.
-unfoldable pub nonzeroPivots : ℕ → Factored → Bool
-nonzeroPivots m f = every m (λ k. not (eq (entry m (f .entries) k k) +0))
-
 -- ---- solving: "each number once found, its products are subtracted one at a time from the rows still to be solved"
 
 -- R16, R18: "Solve forward from the first row": the right side with its rows exchanged, after the first k rows
@@ -117,7 +113,7 @@ solveMatrix m f a =
 
 -- ---- the matrices of the inner nodes, which m and the node's place alone decide
 
--- R9: "The matrix is B, past the first B − A·(previous solved C)": at inner node i, counted from 0
+-- R9, Z1: "The matrix is B, past the first B − A·(previous solved C)": at inner node i, counted from 0
 unfoldable pub nodeMatrix : ℕ → ℕ → List Float
 nodeMatrix m zero = B m
 nodeMatrix m (suc i) =

@@ -8,7 +8,7 @@ use native.Mathlib.Omega.{arith}
 use lib.Dec.{T, leb}
 use borrow.Author.Tests.{leb-true}
 use Rattle.rules.specs.Questions.{Question, ask, firstNo}
-use Rattle.rules.specs.Build.{BuildInput, validOrder, validAxes, inputQuestions, buildQuestions, buildNumber, buildAnswer}
+use Rattle.rules.specs.Build.{BuildInput, validOrder, validAxes, buildQuestions, buildNumber, buildAnswer}
 use Rattle.rules.specs.SheetFaults.{Judged, readable, refused, judge}
 use Rattle.rules.specs.SheetAnswers.{sheetInput, cellsOf, answerFor, sheetAnswer, sheetServed, mostCells}
 use Rattle.rules.proofs.Build.{by-order}
@@ -43,7 +43,7 @@ module _ (b : BuildInput) (x : validOrder (b .config .order) ≡ true) (u : leb 
 
 module _ (cells : ℕ) (h : mostCells ≤ cells) (b : BuildInput) where
   enough : buildNumber b (min cells (cellsOf b)) ≡ buildNumber b (cellsOf b)
-  unfolding buildNumber buildQuestions inputQuestions
+  unfolding buildNumber buildQuestions
   enough =
       four (validOrder (b .config .order)) _ (leb (b .points) 257) (validAxes (b .axes)) 302 304 2 300 _ _
       (λ x y u v. let f = few-cells b x u v in let e : min cells (cellsOf b) ≡ cellsOf b = omega arith in rw e)

@@ -16,8 +16,6 @@ use Rattle.rules.specs.Build.{
   BuildInput,
   validOrder,
   validAxes,
-  inputQuestions,
-  pivotQuestions,
   buildQuestions,
   buildNumber,
   buildAnswer,
@@ -36,19 +34,19 @@ use Rattle.sheet_print.specs.Printing.{pathCells, Printable, outputOf}
 -- a build that answers 0
 module _ (b : BuildInput) (e : buildNumber b (cellsOf b) ≡ 0) where
   answered : (k : ℕ) → T (answerAt (buildQuestions b (cellsOf b)) k)
-  unfolding buildNumber buildQuestions inputQuestions pivotQuestions
+  unfolding buildNumber buildQuestions
   answered = said-yes (buildQuestions b (cellsOf b)) tt e
 
   order-passes : T (validOrder (b .config .order))
-  unfolding buildQuestions inputQuestions
+  unfolding buildQuestions
   order-passes = answered 0
 
   points-pass : (2 ≤ b .points) × (b .points ≤ 257)
-  unfolding buildQuestions inputQuestions
+  unfolding buildQuestions
   points-pass = (leb→le 2 _ (answered 1), leb→le _ 257 (answered 2))
 
   axes-pass : b .axes ≤ 8
-  unfolding buildQuestions inputQuestions validAxes
+  unfolding buildQuestions validAxes
   axes-pass = leb→le (b .axes) 8 (and-r (leb 1 (b .axes)) _ (answered 3))
 
   few-orders : b .config .order ≤ 7

@@ -10,7 +10,7 @@ use lib.Ieee.Bits.{is-true}
 use lib.Ieee.Fits.{and-l, and-r}
 use borrow.Author.Tests.{le-leb}
 use Rattle.rules.specs.Questions.{Question, ask, firstNo}
-use Rattle.rules.specs.Build.{BuildInput, validAxes, buildQuestions, inputQuestions, pivotQuestions, buildNumber, buildAnswer}
+use Rattle.rules.specs.Build.{BuildInput, validAxes, buildQuestions, buildNumber, buildAnswer}
 use Rattle.rules.specs.Query.{queryQuestions, pathQuestions, bufferQuestions, rangeQuestions, queryNumber}
 use Rattle.rules.specs.Master.{masterQuestions, sizeQuestions, lengthQuestions, numberQuestions}
 use Rattle.rules.specs.Master.{masterNumber, endpointEquations, jointEquations, checkMaster}
@@ -54,7 +54,7 @@ excused-passes p (ask true n ∷ rest) h = excused-passes p rest (and-r (p n || 
 excused-passes p (ask false n ∷ rest) h = rw or-false at (and-l (p n || false) (excused p rest) h)
 
 built-listed : (b : BuildInput) (cells : ℕ) → validAxes (b .axes) ≡ true → T (oneOf sheetNumbers (buildNumber b cells))
-unfolding buildNumber buildQuestions inputQuestions pivotQuestions oneOf
+unfolding buildNumber buildQuestions oneOf
 built-listed b cells e = excused-passes (oneOf sheetNumbers) (buildQuestions b cells) (rw e tt)
 
 judged-listed : (k : ℕ) → JudgeNumber k → T (oneOf sheetNumbers k)
@@ -78,7 +78,7 @@ answer-listed t (refused k place) e cells = judged-listed k (judged-numbers t k 
 answer-listed t (readable (sheet h axes)) e cells = built-listed _ _ (axes-valid h axes (judged-are-sheets t (sheet h axes) .0 e .0))
 
 pub numbers-are-listed : NumbersAreListed
-unfolding NumbersAreListed buildNumber buildQuestions inputQuestions pivotQuestions
+unfolding NumbersAreListed buildNumber buildQuestions
     queryNumber queryQuestions pathQuestions bufferQuestions rangeQuestions
     masterNumber masterQuestions sizeQuestions lengthQuestions numberQuestions checkOf checkMaster oneOf
     sheetAnswer sheetServed sheetPlace

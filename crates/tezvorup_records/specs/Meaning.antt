@@ -123,7 +123,7 @@ sheetAnswerOf a = record { number = a .number; at = a .at; path = recordOf (a .p
 -- The numbers that `spline_build`, `spline_query` and `spline_check_master` can answer, and those that both exports for job sheets can;
 -- include/tezvorup.h has a name for each.
 abbrev pub buildNumbers : List ℕ
-buildNumbers = 0 ∷ 2 ∷ 3 ∷ 4 ∷ 300 ∷ 301 ∷ 302 ∷ 303 ∷ 304 ∷ 307 ∷ []
+buildNumbers = 0 ∷ 2 ∷ 3 ∷ 4 ∷ 300 ∷ 301 ∷ 302 ∷ 303 ∷ 304 ∷ []
 
 abbrev pub queryNumbers : List ℕ
 queryNumbers = 0 ∷ 2 ∷ 300 ∷ 301 ∷ 302 ∷ 303 ∷ 304 ∷ 305 ∷ 308 ∷ []
@@ -133,7 +133,7 @@ checkNumbers = 0 ∷ 2 ∷ 4 ∷ 302 ∷ 303 ∷ 304 ∷ []
 
 -- J1: a sheet that is built from has 1 to 8 axes, so 300 is not among them
 abbrev pub sheetNumbers : List ℕ
-sheetNumbers = 0 ∷ 2 ∷ 3 ∷ 4 ∷ 301 ∷ 302 ∷ 303 ∷ 304 ∷ 307 ∷ 600 ∷ 601 ∷ []
+sheetNumbers = 0 ∷ 2 ∷ 3 ∷ 4 ∷ 301 ∷ 302 ∷ 303 ∷ 304 ∷ 600 ∷ 601 ∷ []
 
 -- a number is on a list
 unfoldable pub oneOf : List ℕ → ℕ → Bool

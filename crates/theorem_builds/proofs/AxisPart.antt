@@ -9,7 +9,7 @@ use lib.ListN.{length, take, drop}
 use lib.Seq.{take-all}
 use lib.Ieee.{Float}
 use Rattle.rules.specs.Tables.{mOf}
-use Rattle.rules.specs.Build.{BuildInput, validOrder, buildQuestions, inputQuestions, pivotQuestions, buildNumber}
+use Rattle.rules.specs.Build.{BuildInput, validOrder, buildQuestions, buildNumber}
 use Rattle.rules.specs.Build.{axisCoefficients, axisWaypoints, axisState, table}
 use Rattle.law_lists.proofs.Lists.{joined-part}
 use Rattle.rules.proofs.Questions.{answerAt, said-yes}
@@ -25,15 +25,15 @@ coefficientsOf b axis =
 
 module _ (b : BuildInput) (cells : ℕ) (accepted : buildNumber b cells ≡ 0) where
   said-yes-to : (k : ℕ) → T (answerAt (buildQuestions b cells) k)
-  unfolding buildNumber buildQuestions inputQuestions pivotQuestions
+  unfolding buildNumber buildQuestions
   said-yes-to = said-yes (buildQuestions b cells) tt accepted
 
   pub order-valid : T (validOrder (b .config .order))
-  unfolding buildQuestions inputQuestions pivotQuestions
+  unfolding buildQuestions
   order-valid = said-yes-to 0
 
   two-points : 2 ≤ b .points
-  unfolding buildQuestions inputQuestions pivotQuestions
+  unfolding buildQuestions
   two-points = leb→le 2 (b .points) (said-yes-to 1)
 
   pub axis-length : (axis : ℕ) → length (coefficientsOf b axis) ≡ (b .points - 1) * (b .config .order + 1)

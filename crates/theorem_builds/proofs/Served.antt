@@ -10,7 +10,7 @@ use lib.Ieee.Bits.{is-true}
 use lib.Ieee.Fits.{and-i, and-l, and-r}
 use Rattle.rules.specs.declared.PathParam.{PathParam}
 use Rattle.rules.specs.Floats.{+0, finite}
-use Rattle.rules.specs.Build.{BuildInput, validRange, invDs, buildQuestions, inputQuestions, pivotQuestions, buildNumber, acceptedRecord}
+use Rattle.rules.specs.Build.{BuildInput, validRange, invDs, buildQuestions, buildNumber, acceptedRecord}
 use Rattle.rules.specs.Query.{queryQuestions, pathQuestions, bufferQuestions, rangeQuestions, queryNumber}
 use Rattle.rules.proofs.Questions.{answerAt, said-yes, yes-to}
 use Rattle.rules.proofs.Build.{length-table}
@@ -27,11 +27,11 @@ equals-itself (fin s m e) h = let n = m * up e * down e in is-true _ (and-i (eqb
 
 module _ (b : BuildInput) (cells : ℕ) (e : buildNumber b cells ≡ 0) where
   answered : (k : ℕ) → T (answerAt (buildQuestions b cells) k)
-  unfolding buildNumber buildQuestions inputQuestions pivotQuestions
+  unfolding buildNumber buildQuestions
   answered = said-yes (buildQuestions b cells) tt e
 
   points : (2 ≤ b .points) × (b .points ≤ 257)
-  unfolding buildQuestions inputQuestions pivotQuestions
+  unfolding buildQuestions
   points = (leb→le 2 _ (answered 1), leb→le _ 257 (answered 2))
 
   abbrev lo : PathParam
@@ -45,7 +45,7 @@ module _ (b : BuildInput) (cells : ℕ) (e : buildNumber b cells ≡ 0) where
 
   -- the quotient is the record's own, and it is finite
   range : T (validRange (b .points - 1) lo hi && eq inv inv)
-  unfolding buildQuestions inputQuestions pivotQuestions validRange
+  unfolding buildQuestions validRange
   range =
       let ordered = finite (lo .0) && finite (hi .0) && lt (lo .0) (hi .0) in
       let bounded = and-r ordered (finite inv) (and-l (ordered && finite inv) (lt +0 inv) (answered 8)) in
@@ -53,7 +53,7 @@ module _ (b : BuildInput) (cells : ℕ) (e : buildNumber b cells ≡ 0) where
 
 pub built-paths-are-served : BuiltPathsAreServed
 unfolding
-    BuiltPathsAreServed queryNumber queryQuestions pathQuestions bufferQuestions rangeQuestions acceptedRecord buildQuestions inputQuestions pivotQuestions
+    BuiltPathsAreServed queryNumber queryQuestions pathQuestions bufferQuestions rangeQuestions acceptedRecord buildQuestions
 built-paths-are-served b cells s level n e =
     let yes : (k : ℕ) → T (answerAt (buildQuestions b cells) k) = answered b cells e in
     let few : (2 ≤ b .points) × (b .points ≤ 257) = points b cells e in

@@ -1,11 +1,9 @@
 -- `build_factoring::factor` makes the steps of factoring. The loop's invariant: the first k are made. Assumes nothing.
-use mathlib.Core.Path.{_≡_, refl, ap, _∙_}
-use mathlib.Core.List.{List, []}
+use mathlib.Core.Path.{_≡_, refl}
 use Prim.Native.Nat.{_-_, _*_, _≤_}
 use native.Mathlib.Omega.{arith}
 use lib.ListN.{length}
-use lib.Ieee.{Float}
-use Rattle.rules.specs.Solve.{factorSteps, factor, nonzeroPivots}
+use Rattle.rules.specs.Solve.{factorSteps, factor}
 use Rattle.build_factoring.proofs.Factors.{step-entries, step-rows}
 use Rattle.build_factoring.proofs.factor.Statement.{statement}
 use Rattle.build_factoring.proofs.factor.Tie as tie
@@ -52,20 +50,13 @@ loop-again c =
       step-rows _ _ _ _ _ _ _ (at .inv .3) chosen (at .inv .2) (at .inv .4) (rows .exchange-rows .ensures),
     )
 
-nonzero-pivots-requires : tie.Need-nonzero-pivots-requires Inv-loop μ-loop
-nonzero-pivots-requires c κs = c .before .before .loop .inv .1
-
 returns : tie.Need-returns Inv-loop μ-loop
-unfolding factor nonzeroPivots
+unfolding factor
 returns c =
-    let at = c .before .before .before .loop in
-    let s = c .before .before .before .before .before .before .before .before .before .before in
+    let at = c .before .loop in
+    let s = c .before .before .before .before .before .before .before .before in
     let full : at .k ≡ s .args .m = omega arith in
-    let entries = rw full at (at .inv .3) in (
-      c .nonzero-pivots .ensures ∙ ap (λ (x : List Float). nonzeroPivots (s .args .m) (record { entries = x; rows = [] })) entries,
-      entries,
-      rw full at (at .inv .4),
-    )
+    (rw full at (at .inv .3), rw full at (at .inv .4))
 
 pub factor-spec : {M : Type 1} → statement M
 factor-spec =
@@ -82,7 +73,6 @@ factor-spec =
     (λ c. omega arith)
     (λ c. omega arith)
     loop-again
-    nonzero-pivots-requires
     (λ c. omega arith)
     (λ c. omega arith)
     returns)

@@ -20,7 +20,7 @@ solve-matrix-requires c κs =
     let m = start .args .m in (
       omega arith,
       omega arith,
-      (λ i h. rw (factored .factor .ensures .2) (rows-below m _ i (omega arith))),
+      (λ i h. rw (factored .factor .ensures .1) (rows-below m _ i (omega arith))),
       columns-long (start .pre .2),
       omega (arith, c .solve-matrix-arg3 .given .2),
     )
@@ -36,10 +36,9 @@ returns c =
     let i = args .i in
     let node = factored .before .before .before .before .before .node-entries .ensures in
     let made = factored .factor .ensures in
-    let is = solved-node m i _ _ _ _ node (made .1) (made .2) (start .pre .2 .is) (solved .solve-matrix .ensures) in (
+    let is = solved-node m i _ _ _ _ node (made .0) (made .1) (start .pre .2 .is) (solved .solve-matrix .ensures) in (
       rw node at (made .0),
       rw node at (made .1),
-      rw node at (made .2),
       step (solved-parts m (start .pre .6)) is (start .pre .5) .is,
     )
 

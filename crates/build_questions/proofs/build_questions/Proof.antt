@@ -9,7 +9,7 @@ use lib.ListN.{drop, length}
 use borrow.Author.Needs.{needs}
 use borrow.Author.Tests.{eq-eqb, ne-eqb}
 use Rattle.rules.specs.Questions.{Question, firstNo}
-use Rattle.rules.specs.Build.{inputQuestions, inputOf}
+use Rattle.rules.specs.Build.{buildQuestions, inputOf}
 use Rattle.rules.specs.Master.{sizeQuestions}
 use Rattle.rules.proofs.Questions.{yes-to, no-to, first-no, first-yes}
 use Rattle.rules.proofs.Build.{by-order}
@@ -39,7 +39,7 @@ behind-9 c = behind-8 (c .before .before)
 abbrev asked : tie.Start → List Question
 asked p =
     let a = p .args in
-    inputQuestions (inputOf (a .config) (a .points) (a .axes) (a .waypoints .now) (a .start .now) (a .end .now)) (a .cells)
+    buildQuestions (inputOf (a .config) (a .points) (a .axes) (a .waypoints .now) (a .start .now) (a .end .now)) (a .cells)
 
 abbrev shape : tie.Start → List Question
 shape p = let a = p .args in shapeQuestions (a .config .order) (a .points) (a .axes) (length (a .waypoints .now))
@@ -51,27 +51,27 @@ all-yes : (c : Place) → firstNo (shape (start (c .before))) ≡ 0
 all-yes c = sym (c .before .shape-questions .ensures) ∙ c .if1 .left
 
 past-5 : (c : Place) → Past 5 c
-unfolding inputQuestions shapeQuestions sizeQuestions
+unfolding buildQuestions shapeQuestions sizeQuestions
 past-5 c = let p = start (c .before) in first-yes (shape p) (drop 5 (asked p)) tt (all-yes c)
 
 past-6 : (c : tie.Else2) → Past 6 (behind-6 c)
-unfolding inputQuestions
+unfolding buildQuestions
 past-6 c = past-5 (behind-6 c) ∙ yes-to _ _ (yes (c .before .valid-state .ensures) (c .if2 .left))
 
 past-7 : (c : tie.Else3) → Past 7 (behind-6 (c .before .before))
-unfolding inputQuestions
+unfolding buildQuestions
 past-7 c = past-6 (c .before .before) ∙ yes-to _ _ (yes (c .before .valid-state2 .ensures) (c .if3 .left))
 
 past-8 : (c : tie.Else4) → Past 8 (behind-8 c)
-unfolding inputQuestions
+unfolding buildQuestions
 past-8 c = past-7 (c .before) ∙ yes-to _ _ (eq-eqb _ _ (c .if4 .left))
 
 past-9 : (c : tie.Else5) → Past 9 (behind-9 c)
-unfolding inputQuestions
+unfolding buildQuestions
 past-9 c = past-8 (c .before .before) ∙ yes-to _ _ (yes (c .before .valid-range .ensures) (c .if5 .left))
 
 past-10 : (c : tie.Else8) → Past 10 (behind-9 (c .before .before .before .before .before .before))
-unfolding inputQuestions
+unfolding buildQuestions
 past-10 c =
     let e = c .before .before in
     let d = e .before .before in
@@ -101,41 +101,41 @@ table-bound : (c : Place) → let a = start (c .before) .args in a .axes * (a .p
 table-bound c = let h = order-bounds c in mul-le-mul {m₂ = 8} (segments-bound c) (omega arith)
 
 returns : tie.Need-returns
-unfolding inputQuestions shapeQuestions sizeQuestions
+unfolding buildQuestions shapeQuestions sizeQuestions
 returns c =
     let p = start (c .before) in
     let answer = c .before .shape-questions .ensures in
     answer ∙ sym (first-no (shape p) (drop 5 (asked p)) (λ e. c .if1 .taken (answer ∙ e)))
 
 returns-2 : tie.Need-returns-2
-unfolding inputQuestions
+unfolding buildQuestions
 returns-2 c = sym (past-5 (c .before .before) ∙ no-to _ (no (c .before .valid-state .ensures) (c .if2 .taken)))
 
 returns-3 : tie.Need-returns-3
-unfolding inputQuestions
+unfolding buildQuestions
 returns-3 c = sym (past-6 (c .before .before) ∙ no-to _ (no (c .before .valid-state2 .ensures) (c .if3 .taken)))
 
 returns-4 : tie.Need-returns-4
-unfolding inputQuestions
+unfolding buildQuestions
 returns-4 c = sym (past-7 (c .before) ∙ no-to _ (ne-eqb _ _ (c .if4 .taken)))
 
 returns-5 : tie.Need-returns-5
-unfolding inputQuestions
+unfolding buildQuestions
 returns-5 c = sym (past-8 (c .before .before) ∙ no-to _ (no (c .before .valid-range .ensures) (c .if5 .taken)))
 
 returns-6 : tie.Need-returns-6
-unfolding inputQuestions
+unfolding buildQuestions
 returns-6 c = sym (past-9 (c .before .before) ∙ no-to _ (rw (no (c .before .all-finite .ensures) (c .if6 .taken))))
 
 returns-7 : tie.Need-returns-7
-unfolding inputQuestions
+unfolding buildQuestions
 returns-7 c =
     let d = c .before .before in
     sym (past-9 (d .before .before)
     ∙ no-to _ (rw (yes (d .before .all-finite .ensures) (d .if6 .left), no (c .before .finite-state .ensures) (c .if7 .taken))))
 
 returns-8 : tie.Need-returns-8
-unfolding inputQuestions
+unfolding buildQuestions
 returns-8 c =
     let e = c .before .before in
     let d = e .before .before in
@@ -147,7 +147,7 @@ returns-8 c =
     )))
 
 returns-9 : tie.Need-returns-9
-unfolding inputQuestions firstNo
+unfolding buildQuestions firstNo
 returns-9 c = sym (past-10 c)
 
 pub build-questions-spec : {M : Type 1} → statement M

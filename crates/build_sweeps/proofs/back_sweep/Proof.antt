@@ -9,6 +9,7 @@ use lib.ListN.{length, take, drop, take-append-drop}
 use lib.Ieee.{Float}
 use Rattle.law_lists.specs.Lists.{joined}
 use Rattle.rules.specs.Build.{solvedSide}
+use Rattle.theorem_pivots.proofs.Settled.{distinct-more}
 use Rattle.build_sweeps.proofs.Back.{stepped, swept, swept-start, swept-step, swept-end}
 use borrow.Author.Needs.{needs}
 use Rattle.build_sweeps.proofs.back_sweep.Statement.{statement}
@@ -49,7 +50,7 @@ back-step-requires c κs =
       start .pre .0,
       record {
         solved-at = λ j l. start .pre .1 .solved-at j (omega arith);
-        solved-length = omega (arith, start .pre .1 .solved-length, mul-le-mul-right {m = p + 1} {n = start .args .n} (m * m) (omega arith));
+        solved-length = omega (arith, start .pre .1 .solved-length, mul-le-mul-right (m * m) (distinct-more m (p + 1) (start .args .n) (omega arith)));
       },
       at-loop .loop .inv .1,
       omega (arith, mul-le-mul-right m last, at-loop .loop .inv .2, start .pre .3),

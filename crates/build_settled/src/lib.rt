@@ -1,0 +1,42 @@
+// Which inner nodes have a matrix of their own. The matrices repeat (`NodesRepeat` of crates/theorem_pivots), so a build factors
+// those alone. What the functions answer is said by the definitions of crates/theorem_pivots/specs/Repeating.antt.
+ghost use mathlib.Core.Path.{_≡_};
+ghost use Prim.Native.Nat.{min};
+ghost use Rattle.theorem_pivots.specs.Repeating.{settled, distinct};
+
+// The lesser of two numbers.
+fn least(a: usize, b: usize) -> usize
+    ensures { λ r. ⌜ r ≡ min a b ⌝ }
+{
+    if a < b { a } else { b }
+}
+
+// Z3: the first inner node that has the matrix of inner node i. At order 7 they go round in a cycle of 57, and at orders 3 and 5
+// each is the one before it in the end.
+pub fn settled(m: usize, i: usize) -> usize
+    ensures { λ r. ⌜ r ≡ settled m i ⌝ }
+{
+    if m == 1 {
+        return least(i, 14);
+    }
+    if m == 2 {
+        return least(i, 23);
+    }
+    if i < 34 {
+        return i;
+    }
+    34 + (i - 34) % 57
+}
+
+// Z3: how many of n inner nodes have a matrix of their own.
+pub fn distinct(m: usize, n: usize) -> usize
+    ensures { λ r. ⌜ r ≡ distinct m n ⌝ }
+{
+    if m == 1 {
+        return least(n, 15);
+    }
+    if m == 2 {
+        return least(n, 24);
+    }
+    least(n, 91)
+}

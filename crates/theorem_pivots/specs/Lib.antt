@@ -1,0 +1,2 @@
+pub mod Pivots
+pub mod Repeating
