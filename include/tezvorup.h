@@ -4,8 +4,8 @@
  * buffer holds afterwards. The promises stand in the library's text, in crates/ with these functions.
  *
  * A call that cannot be served gets one refusal number, and every buffer keeps its contents. No function allocates,
- * keeps anything between calls or ends the program. Of the stack spline_build takes some 60 KB, and spline_read_sheet and
- * spline_build_sheet some 100 KB. Calls from several threads are fine while no two share a buffer that is
+ * keeps anything between calls or ends the program. Of the stack spline_build takes some 30 KB, and spline_read_sheet and
+ * spline_build_sheet some 60 KB. Calls from several threads are fine while no two share a buffer that is
  * written.
  *
  * What the caller owes, since no proof can see it:

@@ -1,5 +1,5 @@
-// All axes of a build: the inner nodes' matrices are factored, and the coefficients filled in with them. Every question is answered before
-// (crates/build_questions).
+// All axes of a build: the inner nodes' matrices are factored, and the coefficients filled in with them. Every question is
+// answered before (crates/build_questions).
 ghost use mathlib.Core.Path.{_≡_};
 ghost use Prim.Native.Nat.{_+_, _*_, _≤_};
 ghost use lib.ListN.{length};

@@ -1,5 +1,5 @@
 // The coefficients of all axes, one axis after the other, into the caller's table. Every question is answered before
-// (crates/build_axes).
+// (crates/build_questions).
 ghost use mathlib.Core.Path.{_≡_};
 ghost use Prim.Native.Nat.{_+_, _*_, _≤_};
 ghost use lib.ListN.{length};

@@ -1,5 +1,5 @@
 -- Where the matrices repeat, by m: as the code tells the three cases apart. Assumes nothing.
-use mathlib.Core.Path.{_≡_, refl, ap, _∙_}
+use mathlib.Core.Path.{_≡_, refl, _∙_}
 use mathlib.Core.Bool.{Bool, true, false, cond}
 use Prim.Native.Nat.{ℕ, _+_, _-_, _%_, _<_, _≤_, min}
 use native.Mathlib.Nat.{mod-lt}

@@ -1,5 +1,5 @@
-// Which inner nodes have a matrix of their own. The matrices repeat (`NodesRepeat` of crates/theorem_pivots), so a build factors
-// those alone. What the functions answer is said by the definitions of crates/theorem_pivots/specs/Repeating.antt.
+// Which inner nodes' matrices a build factors. The matrices repeat (`NodesRepeat` of crates/theorem_pivots), so the first few have
+// all of them. What the functions answer is said by the definitions of crates/theorem_pivots/specs/Repeating.antt.
 ghost use mathlib.Core.Path.{_≡_};
 ghost use Prim.Native.Nat.{min};
 ghost use Rattle.theorem_pivots.specs.Repeating.{settled, distinct};
@@ -11,8 +11,8 @@ fn least(a: usize, b: usize) -> usize
     if a < b { a } else { b }
 }
 
-// Z3: the first inner node that has the matrix of inner node i. At order 7 they go round in a cycle of 57, and at orders 3 and 5
-// each is the one before it in the end.
+// Z3: a node, among the first few, that has the matrix of inner node i. At order 7 the matrices go round in a cycle of 57; at orders
+// 3 and 5 each is the one before it in the end.
 pub fn settled(m: usize, i: usize) -> usize
     ensures { λ r. ⌜ r ≡ settled m i ⌝ }
 {
@@ -28,7 +28,7 @@ pub fn settled(m: usize, i: usize) -> usize
     34 + (i - 34) % 57
 }
 
-// Z3: how many of n inner nodes have a matrix of their own.
+// Z3: how many nodes have all the matrices of n inner nodes: 15, 24 and 91 at most.
 pub fn distinct(m: usize, n: usize) -> usize
     ensures { λ r. ⌜ r ≡ distinct m n ⌝ }
 {

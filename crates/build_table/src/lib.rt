@@ -6,7 +6,7 @@ ghost use Rattle.build_plan.specs.Given.{Planned};
 ghost use Rattle.build_filling.specs.AllAxes.{allAxes};
 use build_plan::Plan;
 
-// F10: "Lists per node: fixed arrays for 255 nodes", of whose matrices at most 91 differ. A curve with fewer nodes has
+// F10: "Lists per node: fixed arrays for 255 nodes", whose matrices the first 91 have all. A curve with fewer nodes has
 // shorter ones, since an array is set to zero before it is used; two points have no inner node.
 pub fn fill(plan: Plan, waypoints: &[f64], start: &[f64], end: &[f64], coeffs: &mut [f64])
     requires { ⌜ Planned plan (now waypoints) (now start) (now end)

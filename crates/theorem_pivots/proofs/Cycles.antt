@@ -1,8 +1,8 @@
 -- The factored matrices of the inner nodes are an orbit: each comes of the one before. For each m it is walked once, from the first node to the one at which
 -- the cycle begins and from there round to it again, and each pivot on the way is looked at. antt computes the walks. Assumes nothing.
-use mathlib.Core.Path.{_≡_, refl, ap, _∙_, sym}
+use mathlib.Core.Path.{_≡_, refl, ap, _∙_}
 use mathlib.Core.Bool.{Bool, true, false, not, _&&_}
-use mathlib.Core.List.{List, [], _∷_}
+use mathlib.Core.List.{[], _∷_}
 use Prim.Native.Nat.{ℕ, zero, suc, _≤_}
 use native.Mathlib.Omega.{arith}
 use lib.IntN.{pos, negsuc}
@@ -38,7 +38,7 @@ fine p = not (eq p +0) && finite p && le least (magnitude p)
 unfoldable pub allFine : ℕ → Factored → Bool
 allFine m f = every m (λ k. fine (entry m (f .entries) k k))
 
--- the factored matrix at which the cycle of each m begins
+-- what the walks end in: the factored matrices of node 14 at m = 1, of node 23 at m = 2 and of node 34 at m = 3
 abbrev at14 : Factored
 at14 = record { entries = fin false 8403831313147477 (negsuc 50) ∷ []; rows = 0 ∷ [] }
 
@@ -59,7 +59,7 @@ at34 = record {
   rows = 2 ∷ 1 ∷ 0 ∷ [];
 }
 
--- where the cycle begins
+-- at which the cycle of each m begins
 unfoldable pub begins : ℕ → Factored
 begins zero = at14
 begins (suc zero) = at14

@@ -2,8 +2,8 @@
 -- closes, and what a test finds of that list holds of all that ever come. No word of splines. Assumes nothing.
 use mathlib.Core.Path.{_≡_, refl, sym, ap, _∙_, subst}
 use mathlib.Core.Bool.{Bool, true, false, cond, _&&_}
-use Prim.Native.Nat.{ℕ, zero, suc, _+_, _-_, _*_, _/_, _%_, _<_, _≤_}
-use native.Mathlib.Nat.{zero-add, suc-add, zero-mul, suc-mul, mod-lt, div-add-mod', add-comm, sub-add-cancel}
+use Prim.Native.Nat.{ℕ, zero, suc, _+_, _-_, _*_, _/_, _%_, _<_}
+use native.Mathlib.Nat.{zero-add, suc-add, zero-mul, suc-mul, mod-lt, div-add-mod', add-comm}
 use native.Mathlib.Omega.{arith}
 use borrow.Author.Tests.{ltb-true, ltb-false}
 use lib.Dec.{T, ltb}
@@ -55,7 +55,7 @@ module _ {A : Type 0} (step : A → A) where
         ∙ after-sum (i % period) (i / period * period) c
         ∙ ap (after (i % period)) (rounds (i / period))
 
--- the first place of an orbit, which repeats from lead on after period steps, that has the value of place i
+-- a place, among the first lead + period of an orbit that repeats from lead on after period steps, that has the value of place i
 abbrev pub place : ℕ → ℕ → ℕ → ℕ
 place lead period i = cond (ltb i lead) i (lead + (i - lead) % period)
 

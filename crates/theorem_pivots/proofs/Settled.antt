@@ -1,4 +1,4 @@
--- The first node that has a node's matrix is among those that have one of their own: `settled-below`. Assumes nothing.
+-- The node that has a node's matrix is among the first that have all of them: `settled-below`; how many those are. Assumes nothing.
 use mathlib.Core.Path.{_≡_, refl}
 use mathlib.Core.Bool.{Bool, true, false, cond}
 use Prim.Native.Nat.{ℕ, _+_, _-_, _%_, _<_, _≤_, min}

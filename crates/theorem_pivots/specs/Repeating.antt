@@ -14,14 +14,14 @@ lead m = cond (eqb m 1) 14 (cond (eqb m 2) 23 34)
 unfoldable pub period : ℕ → ℕ
 period m = cond (eqb m 1) 1 (cond (eqb m 2) 1 57)
 
--- Z3: the first inner node that has the matrix of inner node i
+-- Z3: a node, among the first lead + period, that has the matrix of inner node i
 unfoldable pub settled : ℕ → ℕ → ℕ
 settled m i = cond (ltb i (lead m)) i (lead m + (i - lead m) % period m)
 
--- Z3: how many of n inner nodes have a matrix of their own
+-- Z3: how many nodes have all the matrices of n inner nodes: the first so many
 unfoldable pub distinct : ℕ → ℕ → ℕ
 distinct m n = min n (lead m + period m)
 
--- Z3: the theorem
+-- Z3: the theorem; with the factored matrix all repeats that is made of it, solved C and the next matrix
 unfoldable pub NodesRepeat : Type 0
 NodesRepeat = (m i : ℕ) → 1 ≤ m → m ≤ 3 → nodeFactors m i ≡ nodeFactors m (settled m i)
