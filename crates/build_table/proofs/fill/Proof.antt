@@ -31,8 +31,12 @@ requires-1 : tie.Need-solve-general-thomas-requires
 requires-1 c κs =
     let p = c .before .before .before .before .before .before .before .before .before .before in
     let none : p .args .plan .n ≤ 0 = omega (arith, c .before .before .before .before .before .if1 .taken) in
-    let (all, rows, entries) = room 0 0 p none (few 0 p none) in
-    (p .pre .0, p .pre .1, record { for-entries = omega (arith, entries); for-rows = omega (arith, rows); for-solved = omega (arith, entries) }, omega (arith, all))
+    let (all, rows, entries) = room 0 0 p none (few 0 p none) in (
+      p .pre .0,
+      p .pre .1,
+      record { for-entries = omega (arith, entries); for-rows = omega (arith, rows); for-solved = omega (arith, entries) },
+      omega (arith, all),
+    )
 
 requires-2 : tie.Need-solve-general-thomas-requires-2
 requires-2 c κs =
