@@ -4,7 +4,7 @@ use mathlib.Core.Bool.{Bool, true, false, cond}
 use Prim.Native.Nat.{ℕ, _+_, _-_, _%_, _<_, _≤_, min}
 use native.Mathlib.Nat.{mod-lt}
 use native.Mathlib.Omega.{arith}
-use lib.Dec.{ltb}
+use lib.Dec.{ltb, eqb}
 use borrow.Author.Tests.{ltb-true, ltb-false, lt-ltb, le-ltb, ne-eqb}
 use Rattle.theorem_pivots.specs.Repeating.{lead, period, settled, distinct}
 
@@ -16,9 +16,22 @@ at-last i lead = go (ltb i lead) refl
     go true e = omega (arith, ltb-true i lead e)
     go false e = omega (arith, ltb-false i lead e, mod-lt (i - lead) {m = 1} (omega arith))
 
-pub settled-1 : {m : ℕ} (i : ℕ) → m ≡ 1 → settled m i ≡ min i 14
+late : (m : ℕ) → 14 ≤ lead m
+unfolding lead
+late m = go (eqb m 1) (eqb m 2)
+  where
+    go : (a b : Bool) → 14 ≤ cond a 14 (cond b 23 34)
+    go true b = omega arith
+    go false true = omega arith
+    go false false = omega arith
+
+pub settled-early : (m i : ℕ) → i < 14 → settled m i ≡ i
+unfolding settled
+settled-early m i h = let l : i < lead m = omega (arith, late m) in rw (lt-ltb i (lead m) l)
+
+pub settled-1 : {m : ℕ} (i : ℕ) → m ≡ 1 → 14 ≤ i → settled m i ≡ 14
 unfolding settled lead period
-settled-1 i e = rw e (at-last i 14)
+settled-1 i e h = let l : min i 14 ≡ 14 = omega arith in rw e (at-last i 14 ∙ l)
 
 pub settled-2 : {m : ℕ} (i : ℕ) → m ≡ 2 → settled m i ≡ min i 23
 unfolding settled lead period
