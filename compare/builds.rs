@@ -19,7 +19,7 @@ use std::time::Instant;
 use tezvorup::raw::{spline_answer, spline_build, spline_config, spline_path, spline_state};
 
 /// A state as the library takes it. Rows that no list has stand for a kind that does not exist, which no shape fits.
-fn shape(state: &State, axes: usize, m: usize) -> spline_state {
+pub fn shape(state: &State, axes: usize, m: usize) -> spline_state {
     match state.given {
         None => spline_state { kind: 0, rows: axes, columns: m },
         Some((usize::MAX, _, marked)) => spline_state { kind: if marked { 255 } else { 3 }, rows: axes, columns: m },
@@ -27,14 +27,19 @@ fn shape(state: &State, axes: usize, m: usize) -> spline_state {
     }
 }
 
-fn ours(b: &Build, mode: u8, cells: &mut [f64]) -> spline_answer {
+/// What the library is told beside points and lists.
+pub fn config(b: &Build, mode: u8) -> spline_config {
     let m = b.order / 2;
     let (start, end) = (shape(&b.start, b.axes, m), shape(&b.end, b.axes, m));
+    spline_config { order: b.order, s_min: b.s_min, s_max: b.s_max, mode, start, end }
+}
+
+pub fn ours(b: &Build, mode: u8, cells: &mut [f64]) -> spline_answer {
     // SAFETY: each pointer comes with the length of its list, the lists that are written are borrowed as
     // mutable and so lie apart from the others, and the function takes any numbers.
     unsafe {
         spline_build(
-            spline_config { order: b.order, s_min: b.s_min, s_max: b.s_max, mode, start, end },
+            config(b, mode),
             b.points,
             b.axes,
             b.waypoints.as_ptr(),
@@ -109,7 +114,7 @@ fn enlarge(random: &mut Random, b: &mut Build) {
 }
 
 /// A served build: mostly short, and one in eight of any length up to the greatest.
-fn served(random: &mut Random) -> Build {
+pub fn served(random: &mut Random) -> Build {
     let order = random.pick(&[3, 5, 7]);
     let points = match random.below(8) {
         0 => 2 + random.below(256) as usize,
@@ -127,7 +132,7 @@ fn served(random: &mut Random) -> Build {
 }
 
 /// Something that is to be refused; some of it is served all the same, and counts as a build.
-fn doubtful(random: &mut Random) -> Build {
+pub fn doubtful(random: &mut Random) -> Build {
     let mut b = served(random);
     match random.below(9) {
         // round the limits, the lists as long as they would have to be
@@ -166,7 +171,7 @@ fn doubtful(random: &mut Random) -> Build {
 }
 
 /// How many numbers a path's record has.
-const FIELDS: usize = 7;
+pub const FIELDS: usize = 7;
 
 /// The same record, field by field and bit by bit. (What is expected has no NaN.)
 pub fn same_record(x: &spline_path, y: &spline_path) -> bool {
@@ -175,8 +180,8 @@ pub fn same_record(x: &spline_path, y: &spline_path) -> bool {
     wholes(x) == wholes(y) && floats(x) == floats(y)
 }
 
-/// The record of a build that is served: what was given, the mode as one of the two that there are, and the Rust's inv_ds.
-fn record(b: &Build, inv_ds: f64) -> spline_path {
+/// The record of a build that is served: what was given, the mode as one of the two that there are, and an inv_ds.
+pub fn record(b: &Build, inv_ds: f64) -> spline_path {
     spline_path { order: b.order, segments: b.points - 1, axes: b.axes, s_min: b.s_min, s_max: b.s_max, inv_ds, mode: b.clamp.into() }
 }
 
@@ -191,7 +196,7 @@ fn run(b: &Build, mode: u8) -> (spline_answer, Vec<f64>, Vec<f64>, bool) {
     (answer, after, before, all_kept)
 }
 
-fn lists(b: &Build) -> [&[f64]; 3] {
+pub fn lists(b: &Build) -> [&[f64]; 3] {
     [&b.waypoints, &b.start.numbers, &b.end.numbers]
 }
 
@@ -214,7 +219,7 @@ fn count_refusal(count: &mut Count, b: &Build, mode: u8, expected: u32) -> bool 
     answer.number == expected && all_kept && same_record(&answer.path, &spline_path::default()) && kept(&before, &after)
 }
 
-fn describe(b: &Build) -> String {
+pub fn describe(b: &Build) -> String {
     let state = |s: &State| format!("{:?} with {} numbers", s.given, s.numbers.len());
     format!(
         "order {}, {} points, {} axes, {} waypoints, start {}, end {}, range {:e} to {:e}, {} cells",
@@ -237,6 +242,26 @@ const SOURCES: [(&str, &str); 3] = [
     ("builds, orders 5 and 7, more points", "the Rust text, solving as document 01 has it"),
 ];
 
+/// A build at random of every order with every count of points and axes.
+pub fn every(random: &mut Random, mut call: impl FnMut(Build)) {
+    for order in [3, 5, 7] {
+        for points in 2..=257 {
+            for axes in 1..=8 {
+                call(Build::random(random, order, points, axes));
+            }
+        }
+    }
+}
+
+/// A mode as the library is given it: every number but 1 is Error.
+pub fn mode_of(b: &Build, modes: &mut Random) -> u8 {
+    if b.clamp {
+        1
+    } else {
+        modes.pick(&[0, 0, 0, 2, 255])
+    }
+}
+
 /// Every order with every count of points and axes; then so many calls at random, half of them to be refused.
 pub fn compare(count: u64) {
     let (mut random, mut modes) = (Random(0x6a09_e667_f3bc_c909), Random(0xcbbb_9d5d_c105_9ed8));
@@ -256,8 +281,7 @@ pub fn compare(count: u64) {
             _ => refusals.of(expected),
         };
         entry.calls += 1;
-        // every number but 1 is Error
-        let mode = if b.clamp { 1 } else { modes.pick(&[0, 0, 0, 2, 255]) };
+        let mode = mode_of(&b, &mut modes);
         let like = if expected == 0 { count_build(entry, &b, mode) } else { count_refusal(entry, &b, mode, expected) };
         if !like {
             entry.unlike += 1;
@@ -267,13 +291,7 @@ pub fn compare(count: u64) {
             }
         }
     };
-    for order in [3, 5, 7] {
-        for points in 2..=257 {
-            for axes in 1..=8 {
-                call(Build::random(&mut random, order, points, axes));
-            }
-        }
-    }
+    every(&mut random, &mut call);
     for trial in 0..count {
         call(if trial % 2 == 0 { served(&mut random) } else { doubtful(&mut random) });
     }
@@ -314,10 +332,8 @@ pub fn time() {
 
 // ---- trials
 
-/// A build of crates/test_build: the call, and what the Rust makes of it.
-fn trial(name: &str, b: &Build) {
-    assert_eq!(b.number(), 0);
-    let path = b.path().expect("the Rust builds it");
+/// A call of crates/test_build or crates/test_preview.
+pub fn print_call(name: &str, b: &Build) {
     trials::name(name);
     trials::whole("order", b.order);
     trials::float("s_min", b.s_min);
@@ -338,14 +354,26 @@ fn trial(name: &str, b: &Build) {
     for (list, on_a_line) in lists(b).into_iter().zip([b.axes, b.start.numbers.len(), b.end.numbers.len()]) {
         trials::floats(list, on_a_line);
     }
-    trials::whole("= number", 0);
-    trials::whole("= order", b.order);
-    trials::whole("= segments", b.points - 1);
-    trials::whole("= axes", b.axes);
-    trials::float("= s_min", b.s_min);
-    trials::float("= s_max", b.s_max);
-    trials::float("= inv_ds", inv_ds(&path));
-    trials::whole("= mode", b.clamp.into());
+}
+
+/// Its number and record.
+pub fn print_answer(number: u32, path: &spline_path) {
+    trials::whole("= number", number as usize);
+    trials::whole("= order", path.order);
+    trials::whole("= segments", path.segments);
+    trials::whole("= axes", path.axes);
+    trials::float("= s_min", path.s_min);
+    trials::float("= s_max", path.s_max);
+    trials::float("= inv_ds", path.inv_ds);
+    trials::whole("= mode", path.mode.into());
+}
+
+/// A build of crates/test_build: the call, and what the Rust makes of it.
+fn trial(name: &str, b: &Build) {
+    assert_eq!(b.number(), 0);
+    let path = b.path().expect("the Rust builds it");
+    print_call(name, b);
+    print_answer(0, &record(b, inv_ds(&path)));
     trials::whole("= cells", b.cells);
     trials::floats(coefficients(&path), b.order + 1);
 }

@@ -1,8 +1,8 @@
 /*
  * Calls every function of the library from C with generated input, for watched.c and valgrind to watch.
  *
- *   fuzz COUNT   COUNT calls of each function, of spline_mul_add two for one, COUNT / 5 curves and COUNT / 5 sheets that
- *                must be served, and first some sheets whose answers are known
+ *   fuzz COUNT   COUNT calls of each function, of spline_mul_add and spline_preview two for one, COUNT / 5 curves and
+ *                COUNT / 5 sheets that must be served, and first some sheets whose answers are known
  */
 #include <stdarg.h>
 #include <stdint.h>
@@ -124,6 +124,12 @@ static void must(int right) {
         abort();
 }
 
+static int same_answer(const spline_answer *x, const spline_answer *y) {
+    return x->number == y->number && x->path.order == y->path.order && x->path.segments == y->path.segments
+           && x->path.axes == y->path.axes && x->path.mode == y->path.mode && x->path.s_min == y->path.s_min
+           && x->path.s_max == y->path.s_max && x->path.inv_ds == y->path.inv_ds;
+}
+
 static void build(void) {
     size_t order = some_order(), points = some_points(), axes = 1 + below(8), m = order / 2;
     int any = one_in(4);
@@ -135,8 +141,14 @@ static void build(void) {
     range(&config.s_min, &config.s_max);
     points = told(points);
     axes = told(axes);
-    uint32_t number = spline_build(config, points, axes, waypoints, waypoint_count, start, start_count, end, end_count,
-                                   coefficients, coefficient_count).number;
+    /* told the count, a preview answers what the build then does, and it may be told any count */
+    spline_answer expected = spline_preview(config, points, axes, waypoints, waypoint_count, start, start_count, end, end_count,
+                                            coefficient_count);
+    spline_preview(config, points, axes, waypoints, waypoint_count, start, start_count, end, end_count, told(coefficient_count));
+    spline_answer answer = spline_build(config, points, axes, waypoints, waypoint_count, start, start_count, end, end_count,
+                                        coefficients, coefficient_count);
+    must(same_answer(&expected, &answer));
+    uint32_t number = answer.number;
     /* the header's count is 0 where the library refuses the counts, and else what it asks for */
     size_t count = spline_coefficients(config.order, points, axes);
     int refused = number == SPLINE_INVALID_ORDER || number == SPLINE_NOT_ENOUGH_WAYPOINTS || number == SPLINE_INVALID_DIMENSION

@@ -7,6 +7,8 @@
 //!   queries trials    the last trials of crates/test_query
 //!   masters trials    the last trials of crates/test_master
 //!   builds trials     the last trials of crates/test_build
+//!   previews trials   the trials of crates/test_preview
+//!   previews time     a preview beside the build, a row each
 //!   sheets compare N  what is compared of job sheets: N judgements, and fewer builds and runs of the program
 //!   sheets time       what is timed of them
 //!   sheets stack      the longest sheets with little stack; `sheets compare` runs it
@@ -21,6 +23,7 @@ mod exact;
 mod fused;
 mod input;
 mod masters;
+mod previews;
 mod queries;
 mod query;
 mod random;
@@ -38,6 +41,7 @@ mod typed;
 fn compare(percent: u64) {
     fused::compare(800_000 * percent);
     builds::compare(3_000 * percent);
+    previews::compare(3_000 * percent);
     queries::compare(20_000 * percent);
     masters::compare(20_000 * percent);
     sheets::compare(15_000 * percent);
@@ -60,11 +64,13 @@ fn main() {
         ["queries", "trials"] => queries::trials(5_040),
         ["masters", "trials"] => masters::trials(),
         ["builds", "trials"] => builds::trials(),
+        ["previews", "trials"] => previews::trials(),
+        ["previews", "time"] => previews::time(),
         ["sheets", "compare", count] => sheets::compare(count.parse().expect("a whole number")),
         ["sheets", "time"] => sheets::time(),
         ["sheets", "stack"] => sheets::stack(),
         ["sheets", "watch", count] => sheets::watch(count.parse().expect("a whole number")),
         ["sheets", "trials"] => sheet_trials::print(),
-        _ => panic!("compare PERCENT, time, trials of fused, builds, queries, masters or sheets, or sheets compare, time, stack or watch"),
+        _ => panic!("compare PERCENT, time, or NAME trials, or what else the head of this file has"),
     }
 }

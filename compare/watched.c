@@ -5,7 +5,7 @@
  * step beyond a list and every decision on what the caller did not give. After each call it is seen that the number is
  * one that the function has, that the guard cells and all that was lent to be read are as they were, that a refused call
  * changed no cell, and that a served call wrote every cell that it is to write and no other. The record that comes back
- * has every field written: a build's says what was built or is all zero, a sheet's is one that a build hands over, a
+ * has every field written: a build's or a preview's says what was built or is all zero, a sheet's is one that a build hands over, a
  * check is good only where it is not refused, and a place lies in the sheet, at its end where it is served.
  *
  * At the end a row for each function that was called goes to the file that the environment names as ROWS: what was
@@ -26,7 +26,7 @@ typedef struct {
     unsigned long long served, refused, cells, wrong;
 } Seen;
 
-static Seen builds = {"builds", 0, 0, 0, 0}, queries = {"queries", 0, 0, 0, 0};
+static Seen builds = {"builds", 0, 0, 0, 0}, previews = {"previews", 0, 0, 0, 0}, queries = {"queries", 0, 0, 0, 0};
 static Seen checks = {"master checks", 0, 0, 0, 0}, steps = {"fused multiply-adds", 0, 0, 0, 0};
 static Seen readings = {"sheets read", 0, 0, 0, 0}, sheets = {"sheets built", 0, 0, 0, 0};
 
@@ -51,7 +51,7 @@ static int served(Seen *seen, uint32_t answer, const uint32_t *numbers, size_t c
 }
 
 __attribute__((destructor)) static void print(void) {
-    const Seen *all[] = {&builds, &queries, &checks, &steps, &readings, &sheets};
+    const Seen *all[] = {&builds, &previews, &queries, &checks, &steps, &readings, &sheets};
     const char *name = getenv("ROWS");
     FILE *rows = name ? fopen(name, "a") : NULL;
     if (!rows)
@@ -220,6 +220,19 @@ double __wrap_spline_mul_add(double a, double b, double c) {
     return r;
 }
 
+/* What a build answers, and a preview: the function's number, and the record of what was built or all zero. Whether it was
+   served. */
+static int look_at_answer(Seen *seen, const spline_answer *answer, const spline_config *config, size_t points, size_t axes) {
+    static const uint32_t numbers[] = {0, 2, 3, 4, 300, 301, 302, 303, 304};
+    static const spline_path none;
+    look(seen, &answer->number, sizeof answer->number);
+    look_at_path(seen, &answer->path);
+    int yes = served(seen, answer->number, numbers, sizeof numbers / sizeof *numbers);
+    spline_path expected = yes ? built(config, points, axes) : none;
+    see(seen, same_path(&answer->path, &expected), "a record that is not what was built, or not all zero");
+    return yes;
+}
+
 spline_answer __real_spline_build(spline_config config, size_t points, size_t axes, const double *waypoints, size_t waypoint_count,
                                   const double *start, size_t start_count, const double *end, size_t end_count,
                                   double *coefficients, size_t coefficient_count);
@@ -227,24 +240,38 @@ spline_answer __real_spline_build(spline_config config, size_t points, size_t ax
 spline_answer __wrap_spline_build(spline_config config, size_t points, size_t axes, const double *waypoints, size_t waypoint_count,
                                   const double *start, size_t start_count, const double *end, size_t end_count,
                                   double *coefficients, size_t coefficient_count) {
-    static const uint32_t numbers[] = {0, 2, 3, 4, 300, 301, 302, 303, 304};
-    static const spline_path none;
     unsigned long long errors = VALGRIND_COUNT_ERRORS;
     List w = lend(waypoints, waypoint_count, 0), s = lend(start, start_count, 0), e = lend(end, end_count, 0);
     List c = lend(coefficients, coefficient_count, 1);
     forget_config(&config);
     spline_answer answer = __real_spline_build(config, points, axes, lent(&w), waypoint_count, lent(&s), start_count,
                                                lent(&e), end_count, lent(&c), coefficient_count);
-    look(&builds, &answer.number, sizeof answer.number);
-    look_at_path(&builds, &answer.path);
-    int yes = served(&builds, answer.number, numbers, sizeof numbers / sizeof *numbers);
-    spline_path expected = yes ? built(&config, points, axes) : none;
-    see(&builds, same_path(&answer.path, &expected), "a record that is not what was built, or not all zero");
+    int yes = look_at_answer(&builds, &answer, &config, points, axes);
     take_back(&builds, &w, 0);
     take_back(&builds, &s, 0);
     take_back(&builds, &e, 0);
     take_back(&builds, &c, yes ? coefficient_count : 0);
     builds.wrong += VALGRIND_COUNT_ERRORS - errors;
+    return answer;
+}
+
+spline_answer __real_spline_preview(spline_config config, size_t points, size_t axes, const double *waypoints, size_t waypoint_count,
+                                    const double *start, size_t start_count, const double *end, size_t end_count,
+                                    size_t coefficient_count);
+
+spline_answer __wrap_spline_preview(spline_config config, size_t points, size_t axes, const double *waypoints, size_t waypoint_count,
+                                    const double *start, size_t start_count, const double *end, size_t end_count,
+                                    size_t coefficient_count) {
+    unsigned long long errors = VALGRIND_COUNT_ERRORS;
+    List w = lend(waypoints, waypoint_count, 0), s = lend(start, start_count, 0), e = lend(end, end_count, 0);
+    forget_config(&config);
+    spline_answer answer = __real_spline_preview(config, points, axes, lent(&w), waypoint_count, lent(&s), start_count,
+                                                 lent(&e), end_count, coefficient_count);
+    look_at_answer(&previews, &answer, &config, points, axes);
+    take_back(&previews, &w, 0);
+    take_back(&previews, &s, 0);
+    take_back(&previews, &e, 0);
+    previews.wrong += VALGRIND_COUNT_ERRORS - errors;
     return answer;
 }
 

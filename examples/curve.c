@@ -1,5 +1,5 @@
-/* An arch through three points, from C: built, printed, walked along, refused and checked. `examples/c` builds and runs
-   it; examples/curve.rs is the same in Rust and prints the same. */
+/* An arch through three points, from C: asked about, built, printed, walked along, refused and checked. `examples/c` builds and
+   runs it; examples/curve.rs is the same in Rust and prints the same. */
 #include <math.h>
 #include <stdio.h>
 #include <string.h>
@@ -8,10 +8,17 @@
 
 enum { ORDER = 5, POINTS = 3, AXES = 2, SEGMENTS = POINTS - 1, CELLS = ORDER + 1, STATE = (ORDER - 1) / 2 };
 
+/* The mode is SPLINE_MODE_ERROR, and both states are SPLINE_STATE_NONE, which is at rest. */
+static const spline_config config = {.order = ORDER, .s_min = 0.0, .s_max = 2.0};
+
+/* What the build will answer. No table is needed. */
+static spline_answer preview(const double *waypoints) {
+    return spline_preview(config, POINTS, AXES, waypoints, AXES * POINTS, NULL, 0, NULL, 0,
+                          SPLINE_COEFFICIENTS(ORDER, POINTS, AXES));
+}
+
 /* Builds into a table that may be in use: it changes only where the answer's number is SPLINE_OK. */
 static spline_answer build(const double *waypoints, double *table) {
-    /* the mode is SPLINE_MODE_ERROR, and both states are SPLINE_STATE_NONE, which is at rest */
-    spline_config config = {.order = ORDER, .s_min = 0.0, .s_max = 2.0};
     return spline_build(config, POINTS, AXES, waypoints, AXES * POINTS, NULL, 0, NULL, 0,
                         table, SPLINE_COEFFICIENTS(ORDER, POINTS, AXES));
 }
@@ -34,6 +41,8 @@ int main(void) {
     const double waypoints[AXES * POINTS] = {0, 0, 8, 3, 16, 0};
     double table[SPLINE_COEFFICIENTS(ORDER, POINTS, AXES)];
 
+    spline_answer told = preview(waypoints);
+    printf("preview: %u, segments %zu\n", (unsigned)told.number, told.path.segments);
     spline_answer built = build(waypoints, table);
     printf("build: %u\n", (unsigned)built.number);
     if (built.number != SPLINE_OK)
@@ -63,7 +72,8 @@ int main(void) {
     memcpy(loaded, table, sizeof table);
     const double damaged[AXES * POINTS] = {0, 0, NAN, 3, 16, 0};
     spline_answer refused = build(damaged, table);
-    printf("a waypoint that is no number: refused with %u, the table is %s\n", (unsigned)refused.number,
+    printf("a waypoint that is no number: told %u, refused with %u, the table is %s\n",
+           (unsigned)preview(damaged).number, (unsigned)refused.number,
            memcmp(loaded, table, sizeof table) == 0 ? "as it was" : "changed");
 
     double q[AXES], dq[AXES], ddq[AXES];

@@ -1,11 +1,13 @@
-//! An arch through three points, from Rust: built, printed, walked along, refused and checked. `examples/rust` builds and
-//! runs it, and `cargo run --example curve` in bindings/rust; examples/curve.c is the same in C and prints the same.
-use tezvorup::{check_master, from_waypoints_view, PathError, SplineConfig, SplinePath};
+//! An arch through three points, from Rust: asked about, built, printed, walked along, refused and checked. `examples/rust`
+//! builds and runs it, and `cargo run --example curve` in bindings/rust; examples/curve.c is the same in C and prints the same.
+use tezvorup::{check_master, from_waypoints_view, preview_view, PathError, SplineConfig, SplinePath};
 
 const CELLS: usize = 6;
 
 fn main() -> Result<(), PathError> {
     let config = SplineConfig { order: 5, s_max: 2.0, ..SplineConfig::default() };
+    let told = SplinePath::preview(&config, 2, &[0.0, 0.0, 8.0, 3.0, 16.0, 0.0])?;
+    println!("preview: 0, segments {}", told.segments);
     let path = SplinePath::from_points(&config, &[[0.0, 0.0], [8.0, 3.0], [16.0, 0.0]])?;
     println!("build: 0");
     for (place, segment) in path.coefficients().chunks(CELLS).enumerate() {
@@ -29,9 +31,10 @@ fn main() -> Result<(), PathError> {
     // Points that are not accepted leave the loaded table as it was.
     let mut table = path.coefficients().to_vec();
     let damaged = [0.0, 0.0, f64::NAN, 3.0, 16.0, 0.0];
+    let told = preview_view(&config, 3, 2, &damaged, table.len()).expect_err("a waypoint is no number");
     let refused = from_waypoints_view(&config, 3, 2, &damaged, &mut table).expect_err("a waypoint is no number");
     let kept = if table == path.coefficients() { "as it was" } else { "changed" };
-    println!("a waypoint that is no number: refused with {}, the table is {kept}", refused.number());
+    println!("a waypoint that is no number: told {}, refused with {}, the table is {kept}", told.number(), refused.number());
 
     let refused = path.position(2.5).expect_err("the range ends at 2");
     println!("s 2.5: refused with {}", refused.number());

@@ -95,14 +95,14 @@ typedef struct {
     spline_state start, end;
 } spline_config;
 
-/* What a query needs to know of a curve beside its coefficients. spline_build hands it over. */
+/* What a query needs to know of a curve beside its coefficients. spline_build hands it over, and spline_preview beforehand. */
 typedef struct {
     size_t order, segments, axes;
     double s_min, s_max, inv_ds;
     uint8_t mode;
 } spline_path;
 
-/* What a build answers: SPLINE_OK and the curve's record, or a refusal number and the record all zero. */
+/* What a build answers, and a preview: SPLINE_OK and the curve's record, or a refusal number and the record all zero. */
 typedef struct {
     uint32_t number;
     spline_path path;
@@ -155,6 +155,20 @@ spline_answer spline_build(spline_config config, size_t points, size_t axes,
                            const double *start, size_t start_count,
                            const double *end, size_t end_count,
                            double *coefficients, size_t coefficient_count);
+
+/*
+ * Asks before the build: the number and the record that spline_build answers which is given the same, and coefficients of
+ * this count. So while a customer waits, it tells whether the points will be taken, and the loaded table stays as it is:
+ * nothing is lent that could be written to. The count is any number, also one that no list has.
+ *
+ * Answers as spline_build does, at refusals too; that the two are equal for all that can be given is proved
+ * (PreviewIsTheBuild, crates/theorem_builds/specs/Previews.antt). It takes the time of the questions alone.
+ */
+spline_answer spline_preview(spline_config config, size_t points, size_t axes,
+                             const double *waypoints, size_t waypoint_count,
+                             const double *start, size_t start_count,
+                             const double *end, size_t end_count,
+                             size_t coefficient_count);
 
 /*
  * Position and derivatives at s of a curve that spline_build built.

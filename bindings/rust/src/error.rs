@@ -183,7 +183,7 @@ fn numbers<'a>(state: &BoundaryState<'a>) -> &'a [f64] {
     }
 }
 
-/// A build's refusal. Each number comes after the questions before it were answered with yes, so counts are small where they
+/// A build's refusal, or a preview's. Each number comes after the questions before it were answered with yes, so counts are small where they
 /// are multiplied.
 pub(crate) fn of_build(number: u32, config: &SplineConfig, points: usize, axes: usize, waypoints: &[f64], cells: usize) -> PathError {
     let &SplineConfig { order, s_min, s_max, .. } = config;

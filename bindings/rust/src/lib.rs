@@ -23,8 +23,19 @@
 //! # Ok::<(), SheetError>(())
 //! ```
 //!
+//! While a customer waits, [`SplinePath::preview`] tells whether the points will be taken, and nothing is built:
+//!
+//! ```
+//! use tezvorup::{SplineConfig, SplinePath};
+//!
+//! let config = SplineConfig { order: 5, s_max: 2.0, ..SplineConfig::default() };
+//! assert_eq!(SplinePath::preview(&config, 2, &[0.0, 0.0, 8.0, 3.0, 16.0, 0.0]).unwrap().segments, 2);
+//! assert_eq!(SplinePath::preview(&config, 2, &[0.0, 0.0]).unwrap_err().to_string(), "not enough waypoints: 1, expected >= 2");
+//! ```
+//!
 //! [`from_waypoints_view`], [`build_sheet`] and [`eval_at`] are lent theirs, and allocate nothing. A call that is refused leaves
-//! every buffer as it was. Names are those of copp's `src/path/spline.rs` where it has them.
+//! every buffer as it was, and [`preview_view`] tells before a build, without a buffer, what it will answer. Names are those of
+//! copp's `src/path/spline.rs` where it has them.
 //!
 //! What is proved stands in the library's text, in crates/ with the functions of [`raw`]. This package is not proved: it hands each slice
 //! over as pointer and length, and gives each refusal number its name.
@@ -97,6 +108,15 @@ pub struct SplineConfig<'a> {
     pub end_state: BoundaryState<'a>,
 }
 
+impl<'a> SplineConfig<'a> {
+    /// The configuration as the library takes it, and the numbers of both states.
+    fn raw(&self) -> (raw::spline_config, &'a [f64], &'a [f64]) {
+        let &SplineConfig { order, s_min, s_max, out_of_range_mode, start_state, end_state } = self;
+        let ((start, start_numbers), (end, end_numbers)) = (start_state.raw(), end_state.raw());
+        (raw::spline_config { order, s_min, s_max, mode: out_of_range_mode as u8, start, end }, start_numbers, end_numbers)
+    }
+}
+
 impl Default for SplineConfig<'_> {
     fn default() -> Self {
         SplineConfig {
@@ -160,8 +180,47 @@ pub fn coefficient_count(order: usize, points: usize, axes: usize) -> usize {
     }
 }
 
+/// Asks before the build: what [`from_waypoints_view`] answers that is given the same and a buffer of so many cells, its record
+/// or its refusal. It is lent no buffer, so a table that is in use stays as it is; `cells` may be any number.
+///
+/// ```
+/// use tezvorup::{coefficient_count, from_waypoints_view, preview_view, PathError, SplineConfig};
+///
+/// let config = SplineConfig { order: 3, ..SplineConfig::default() };
+/// let cells = coefficient_count(3, 2, 1);
+/// let told = preview_view(&config, 2, 1, &[0.0, 1.0], cells)?;
+/// assert_eq!(from_waypoints_view(&config, 2, 1, &[0.0, 1.0], &mut vec![0.0; cells])?, told);
+///
+/// let refused = preview_view(&config, 2, 1, &[0.0, f64::NAN], cells);
+/// assert_eq!(refused, Err(PathError::InvalidArgument { what: "waypoints", place: 1 }));
+/// # Ok::<(), PathError>(())
+/// ```
+pub fn preview_view(config: &SplineConfig, points: usize, axes: usize, waypoints: &[f64], cells: usize) -> Result<PathRecord, PathError> {
+    let (raw_config, start, end) = config.raw();
+    // SAFETY: each pointer comes with the length of its slice, and the function takes any numbers and writes nothing.
+    let answer = unsafe {
+        raw::spline_preview(
+            raw_config,
+            points,
+            axes,
+            waypoints.as_ptr(),
+            waypoints.len(),
+            start.as_ptr(),
+            start.len(),
+            end.as_ptr(),
+            end.len(),
+            cells,
+        )
+    };
+    match answer.number {
+        0 => Ok(answer.path.into()),
+        number => Err(error::of_build(number, config, points, axes, waypoints, cells)),
+    }
+}
+
 /// Builds the curve through points of so many axes, given point after point, into a buffer of exactly
-/// [`coefficient_count`] cells: by axis, then segment, then power. Refused, the buffer holds what it held.
+/// [`coefficient_count`] cells: by axis, then segment, then power. Refused, the buffer holds what it held; whether it will be,
+/// [`preview_view`] tells.
 pub fn from_waypoints_view(
     config: &SplineConfig,
     points: usize,
@@ -169,14 +228,12 @@ pub fn from_waypoints_view(
     waypoints: &[f64],
     coeffs: &mut [f64],
 ) -> Result<PathRecord, PathError> {
-    let &SplineConfig { order, s_min, s_max, out_of_range_mode: mode, .. } = config;
-    let (start_state, start) = config.start_state.raw();
-    let (end_state, end) = config.end_state.raw();
+    let (raw_config, start, end) = config.raw();
     // SAFETY: each pointer comes with the length of its slice, what is written is borrowed as mutable and so lies apart
     // from the rest, and the function takes any numbers.
     let answer = unsafe {
         raw::spline_build(
-            raw::spline_config { order, s_min, s_max, mode: mode as u8, start: start_state, end: end_state },
+            raw_config,
             points,
             axes,
             waypoints.as_ptr(),
@@ -305,12 +362,23 @@ pub struct SplinePath {
     coeffs: Vec<f64>,
 }
 
+/// How many points so many numbers are. With no axes, which is refused, each counts as a point.
+fn point_count(axes: usize, numbers: &[f64]) -> usize {
+    numbers.len() / axes.max(1)
+}
+
 impl SplinePath {
+    /// Asks before the build: the record of the curve that [`from_waypoints`](Self::from_waypoints) makes of the same, or its
+    /// refusal. Nothing is built and nothing allocated.
+    pub fn preview(config: &SplineConfig, axes: usize, numbers: &[f64]) -> Result<PathRecord, PathError> {
+        let points = point_count(axes, numbers);
+        preview_view(config, points, axes, numbers, coefficient_count(config.order, points, axes))
+    }
+
     /// The curve through points of so many axes, given as numbers, point after point. Numbers that are no whole points are
     /// refused with [`PathError::InvalidShape`].
     pub fn from_waypoints(config: &SplineConfig, axes: usize, numbers: &[f64]) -> Result<Self, PathError> {
-        // with no axes, which is refused, each number counts as a point
-        let points = numbers.len() / axes.max(1);
+        let points = point_count(axes, numbers);
         let mut coeffs = vec![0.0; coefficient_count(config.order, points, axes)];
         let record = from_waypoints_view(config, points, axes, numbers, &mut coeffs)?;
         Ok(SplinePath { record, coeffs })

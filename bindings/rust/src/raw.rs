@@ -77,6 +77,18 @@ extern "C" {
         coefficients: *mut f64,
         coefficient_count: usize,
     ) -> spline_answer;
+    pub fn spline_preview(
+        config: spline_config,
+        points: usize,
+        axes: usize,
+        waypoints: *const f64,
+        waypoint_count: usize,
+        start: *const f64,
+        start_count: usize,
+        end: *const f64,
+        end_count: usize,
+        coefficient_count: usize,
+    ) -> spline_answer;
     pub fn spline_query(
         path: spline_path,
         coefficients: *const f64,

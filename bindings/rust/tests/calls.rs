@@ -1,5 +1,5 @@
 //! Trial pieces of document 01, each refusal with its name and what it says, and the conveniences of the package.
-use tezvorup::{check_master, coefficient_count, eval_at, from_waypoints_view, mul_add};
+use tezvorup::{check_master, coefficient_count, eval_at, from_waypoints_view, mul_add, preview_view};
 use tezvorup::{BoundaryState, OutOfRangeMode, PathError, PathRecord, SplineConfig, SplinePath};
 
 /// Piece d: order 3, the points 0 4 8, on 0 to 2.
@@ -20,11 +20,12 @@ fn state(numbers: &[f64]) -> BoundaryState<'_> {
 
 const LOADED: [f64; 8] = [1.0, 2.0, 3.0, 4.0, 5.0, 6.0, 7.0, 8.0];
 
-/// A build that is refused, into a table of eight numbers that has to stay.
+/// A build that is refused, into a table of eight numbers that has to stay. A preview says the same.
 fn refused(config: SplineConfig, points: usize, axes: usize, waypoints: &[f64]) -> PathError {
     let mut coeffs = LOADED;
     let error = from_waypoints_view(&config, points, axes, waypoints, &mut coeffs).unwrap_err();
     assert_eq!(coeffs, LOADED);
+    assert_eq!(preview_view(&config, points, axes, waypoints, coeffs.len()).as_ref(), Err(&error));
     error
 }
 
@@ -72,6 +73,28 @@ fn clamp_takes_the_nearest_end() {
     assert_eq!(path.record().mode, OutOfRangeMode::Clamp);
     assert_eq!(path.position(-1.0).unwrap(), [7.0]);
     assert_eq!(path.position(60.0).unwrap(), [9.0]);
+}
+
+#[test]
+fn a_preview_is_the_builds_answer() {
+    let config = SplineConfig { order: 3, s_min: -1.0, out_of_range_mode: OutOfRangeMode::Clamp, ..SplineConfig::default() };
+    let numbers = [0.0, 4.0, 8.0];
+    let path = SplinePath::from_waypoints(&config, 1, &numbers).unwrap();
+    assert_eq!(SplinePath::preview(&config, 1, &numbers).as_ref(), Ok(path.record()));
+    assert_eq!(preview_view(&config, 3, 1, &numbers, 8).as_ref(), Ok(path.record()));
+    for (axes, numbers) in [(0, &[0.0; 3][..]), (2, &[0.0; 3]), (2, &[0.0; 7]), (9, &[0.0; 18]), (1, &[0.0, f64::NAN])] {
+        assert_eq!(SplinePath::preview(&config, axes, numbers), Err(SplinePath::from_waypoints(&config, axes, numbers).unwrap_err()));
+    }
+}
+
+/// The length is any number, also one that no buffer has.
+#[test]
+fn a_preview_is_told_any_length() {
+    let config = SplineConfig { order: 3, ..SplineConfig::default() };
+    for cells in [0, 7, 9, 1 << 32, 1 << 61, 1 << 63, usize::MAX] {
+        let other = PathError::InvalidLength { what: "coefficients", expected: 8, given: cells };
+        assert_eq!(preview_view(&config, 3, 1, &[0.0, 4.0, 8.0], cells), Err(other));
+    }
 }
 
 #[test]

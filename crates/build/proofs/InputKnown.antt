@@ -6,16 +6,17 @@ use mathlib.Core.List.{List}
 use Prim.Native.Nat.{ℕ, _+_, _-_, _*_, _≤_}
 use native.Mathlib.Nat.{le-of-eq, mul-comm, mul-assoc}
 use native.Mathlib.Omega.{arith}
-use lib.Dec.{T, leb, eqb, eqb→eq, leb→le}
+use lib.Dec.{T, eqb, eqb→eq}
 use lib.ListN.{length}
 use lib.Ieee.{Float}
 use lib.Ieee.Fits.{and-r}
 use Rattle.rules.specs.declared.BoundaryState.{BoundaryState}
 use Rattle.rules.specs.declared.BoundaryState.the-variants.{None, Given}
 use Rattle.rules.specs.Tables.{mOf}
-use Rattle.rules.specs.Build.{BuildInput, validAxes, validState, buildQuestions, buildNumber, acceptedRecord, axisWaypoints, axisState, table}
-use Rattle.rules.proofs.Questions.{answerAt, said-yes}
+use Rattle.rules.specs.Build.{BuildInput, validState, buildQuestions, buildNumber, acceptedRecord, axisWaypoints, axisState, table}
+use Rattle.rules.proofs.Questions.{answerAt}
 use Rattle.rules.proofs.Build.{by-order, coefficient-count}
+use Rattle.rules.proofs.BuildAnswers.{answered, order-known, points-known, axes-known}
 use Rattle.law_lists.proofs.Filling.{joined-ext}
 use Rattle.build_plan.specs.declared.Plan.{Plan}
 use Rattle.build_plan.specs.Given.{HasNumbers, Planned}
@@ -39,44 +40,42 @@ planOf b inv = record {
 }
 
 module _ (b : BuildInput) (before : List Float) (e : buildNumber b (length before) ≡ 0) where
-  answered : (k : ℕ) → T (answerAt (buildQuestions b (length before)) k)
-  unfolding buildNumber buildQuestions
-  answered = said-yes (buildQuestions b (length before)) tt e
+  yes-to : (k : ℕ) → T (answerAt (buildQuestions b (length before)) k)
+  yes-to = answered b (length before) e
 
-  pub order-known : let order = b .config .order in (1 ≤ order) × (1 ≤ mOf order) × (mOf order ≤ 3)
-  unfolding buildQuestions
-  order-known =
+  pub points-bounds : (2 ≤ b .points) × (b .points ≤ 257)
+  points-bounds = points-known b (length before) e
+
+  pub order-bounds : let order = b .config .order in (1 ≤ order) × (1 ≤ mOf order) × (mOf order ≤ 3)
+  order-bounds =
       by-order (λ order. (1 ≤ order) × (1 ≤ mOf order) × (mOf order ≤ 3))
-      (omega arith, omega arith, omega arith) (omega arith, omega arith, omega arith) (omega arith, omega arith, omega arith) _ (answered 0)
-
-  pub points-known : (2 ≤ b .points) × (b .points ≤ 257)
-  unfolding buildQuestions
-  points-known = (leb→le 2 _ (answered 1), leb→le _ 257 (answered 2))
+      (omega arith, omega arith, omega arith) (omega arith, omega arith, omega arith) (omega arith, omega arith, omega arith)
+      _ (order-known b (length before) e)
 
   pub planned : (inv : Float) → Planned (planOf b inv) (b .waypoints) (b .start) (b .end)
-  unfolding buildQuestions validAxes
+  unfolding buildQuestions
   planned inv =
-      let known : (2 ≤ b .points) × (b .points ≤ 257) = points-known in
+      let known : (2 ≤ b .points) × (b .points ≤ 257) = points-bounds in
       record {
-        some = order-known .1;
-        few = order-known .2;
+        some = order-bounds .1;
+        few = order-bounds .2;
         few-nodes = omega arith;
-        few-axes = leb→le (b .axes) 8 (and-r (leb 1 (b .axes)) _ (answered 3));
-        waypoints-length = eqb→eq _ _ (answered 4) ∙ mul-comm (b .axes) (b .points) ∙ ap (λ (points : ℕ). points * b .axes) (omega arith);
-        start-numbers = has-numbers _ _ _ _ (answered 5);
-        end-numbers = has-numbers _ _ _ _ (answered 6);
+        few-axes = axes-known b (length before) e;
+        waypoints-length = eqb→eq _ _ (yes-to 4) ∙ mul-comm (b .axes) (b .points) ∙ ap (λ (points : ℕ). points * b .axes) (omega arith);
+        start-numbers = has-numbers _ _ _ _ (yes-to 5);
+        end-numbers = has-numbers _ _ _ _ (yes-to 6);
       }
 
   pub cells-are : length before ≡ b .axes * ((b .points - 2 + 1) * (2 * mOf (b .config .order) + 2))
   unfolding buildQuestions
   cells-are =
-      let known : (2 ≤ b .points) × (b .points ≤ 257) = points-known in
-      eqb→eq _ _ (answered 7) ∙ mul-assoc (b .axes) (b .points - 1) (b .config .order + 1)
-      ∙ ap₂ (λ (segments cells : ℕ). b .axes * (segments * cells)) (omega arith) (sym (coefficient-count _ (answered 0)))
+      let known : (2 ≤ b .points) × (b .points ≤ 257) = points-bounds in
+      eqb→eq _ _ (yes-to 7) ∙ mul-assoc (b .axes) (b .points - 1) (b .config .order + 1)
+      ∙ ap₂ (λ (segments cells : ℕ). b .axes * (segments * cells)) (omega arith) (sym (coefficient-count _ (order-known b (length before) e)))
 
   pub table-is : allAxes (planOf b (acceptedRecord b .«inv_ds»)) (b .waypoints) (b .start) (b .end) ≡ table b
   unfolding table axisWaypoints axisState
   table-is =
-      let known : (2 ≤ b .points) × (b .points ≤ 257) = points-known in
+      let known : (2 ≤ b .points) × (b .points ≤ 257) = points-bounds in
       let points-are : b .points - 2 + 2 ≡ b .points = omega arith in
       joined-ext (b .axes) _ _ (λ axis l. rw points-are)

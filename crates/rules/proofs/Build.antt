@@ -16,7 +16,7 @@ use Rattle.rules.specs.Build.{BuildInput, validOrder, tableLength, build
 use Rattle.rules.specs.Build.{buildNumber, segmentCoefficients, solvedSide, innerNumbers}
 use Rattle.rules.specs.Build.{nodeNumbers, axisCoefficients, axisState, table, bufferAfter}
 use Rattle.law_lists.proofs.Lists.{length-listed, length-joined}
-use Rattle.rules.proofs.Questions.{answerAt, said-yes}
+use Rattle.rules.proofs.BuildAnswers.{answered, order-known, points-known}
 use Rattle.rules.proofs.Solve.{length-minus, length-solve}
 
 length-cond : {A : Type 0} (t : Bool) (x y : List A) (n : ℕ) → length x ≡ n → length y ≡ n → length (cond t x y) ≡ n
@@ -94,10 +94,9 @@ length-table b t h =
 
 -- by questions 1, 2 and 7, the last of which stands behind two questions about states
 accepted-length : (b : BuildInput) (cells : ℕ) → buildNumber b cells ≡ 0 → length (table b) ≡ cells
-unfolding buildNumber buildQuestions
+unfolding buildQuestions
 accepted-length b cells e =
-    let yes-to : (k : ℕ) → T (answerAt (buildQuestions b cells) k) = said-yes (buildQuestions b cells) tt e in
-    length-table b (yes-to 0) (leb→le 2 (b .points) (yes-to 1)) ∙ sym (eqb→eq cells _ (yes-to 7))
+    length-table b (order-known b cells e) (points-known b cells e .0) ∙ sym (eqb→eq cells _ (answered b cells e 7))
 
 -- D1: no buffer changes its length
 pub keeps-length : (b : BuildInput) (before : List Float) → length (bufferAfter b before) ≡ length before

@@ -114,6 +114,7 @@ refusedRecord = record {
 }
 
 -- B13, B15: "A yes to all returns 0 and the record"; "A refusal returns its number and the all-zero record"
+-- V1, V2, V3, V4: a preview "gives the number and record that the build would give"; the buffer counts "only as a length", which is any number
 unfoldable pub buildAnswer : BuildInput → ℕ → BuildAnswer
 buildAnswer b cells =
     let number = buildNumber b cells in

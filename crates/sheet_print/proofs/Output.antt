@@ -7,16 +7,13 @@ use native.Mathlib.Nat.{mul-le-mul}
 use native.Mathlib.Omega.{arith}
 use lib.ListN.{length, take, drop}
 use lib.Seq.{length-take-le, take-at}
-use lib.Dec.{T, leb, eqb, leb→le}
+use lib.Dec.{T, eqb}
 use lib.Ieee.{Float}
-use lib.Ieee.Fits.{and-r}
 use borrow.Author.Tests.{eqb-true}
 use Rattle.rules.specs.declared.PathRecord.{PathRecord}
 use Rattle.rules.specs.Build.{
   BuildInput,
   validOrder,
-  validAxes,
-  buildQuestions,
   buildNumber,
   buildAnswer,
   acceptedRecord,
@@ -26,28 +23,20 @@ use Rattle.rules.specs.Build.{
 }
 use Rattle.rules.specs.SheetFaults.{Judged, readable, refused}
 use Rattle.rules.specs.SheetAnswers.{sheetInput, cellsOf, answerFor, bufferFor, mostCells, tableFor, tableOutput, refusedOutput}
-use Rattle.rules.proofs.Questions.{answerAt, said-yes}
 use Rattle.rules.proofs.Build.{by-order, length-table}
-use Rattle.rules.proofs.BuildAnswers.{accepted-buffer}
+use Rattle.rules.proofs.BuildAnswers.{order-known, points-known, axes-known, accepted-buffer}
 use Rattle.sheet_print.specs.Printing.{pathCells, Printable, outputOf}
 
 -- a build that answers 0
 module _ (b : BuildInput) (e : buildNumber b (cellsOf b) ≡ 0) where
-  answered : (k : ℕ) → T (answerAt (buildQuestions b (cellsOf b)) k)
-  unfolding buildNumber buildQuestions
-  answered = said-yes (buildQuestions b (cellsOf b)) tt e
-
   order-passes : T (validOrder (b .config .order))
-  unfolding buildQuestions
-  order-passes = answered 0
+  order-passes = order-known b (cellsOf b) e
 
   points-pass : (2 ≤ b .points) × (b .points ≤ 257)
-  unfolding buildQuestions
-  points-pass = (leb→le 2 _ (answered 1), leb→le _ 257 (answered 2))
+  points-pass = points-known b (cellsOf b) e
 
   axes-pass : b .axes ≤ 8
-  unfolding buildQuestions validAxes
-  axes-pass = leb→le (b .axes) 8 (and-r (leb 1 (b .axes)) _ (answered 3))
+  axes-pass = axes-known b (cellsOf b) e
 
   few-orders : b .config .order ≤ 7
   few-orders = by-order (λ n. n ≤ 7) (omega arith) (omega arith) (omega arith) (b .config .order) order-passes

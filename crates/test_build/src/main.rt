@@ -1,62 +1,13 @@
 // Makes the builds that standard input has, and compares each answer with the one that stands behind its call:
 // number, record, and every cell of the buffer and of those beside it. The first lines of the input say how a call is
 // written. Prints the names of calls that were answered otherwise, and how many calls and numbers there were.
-use rules::BoundaryState;
 use rules::BuildAnswer;
-use rules::OutOfRangeMode;
-use rules::PathParam;
 use rules::SplineConfig;
 use test_common::seen;
 use test_common::seen::Seen;
+use test_given::Lists;
 use test_input::read;
 use test_input::read::Name;
-
-// Kinds: 0 none, 1 given, 2 given per unit of s.
-fn next_state() -> BoundaryState {
-    let kind = read::count();
-    let rows = read::count();
-    let columns = read::count();
-    if kind == 0 {
-        return BoundaryState::None;
-    }
-    BoundaryState::Given {
-        rows,
-        columns,
-        per_unit_of_s: kind == 2,
-    }
-}
-
-fn next_config() -> SplineConfig {
-    SplineConfig {
-        order: read::count(),
-        s_min: PathParam(read::float()),
-        s_max: PathParam(read::float()),
-        out_of_range_mode: read::mode(),
-        start_state: next_state(),
-        end_state: next_state(),
-    }
-}
-
-// How many waypoints there are, and how many numbers of the start and of the end.
-struct Lengths {
-    waypoints: usize,
-    start: usize,
-    end: usize,
-    all: usize,
-}
-
-// There is room for 2336 waypoints and for 32 numbers of a state. What is more is cut off.
-fn next_lengths() -> Lengths {
-    let waypoints = read::least(read::count(), 2336);
-    let start = read::least(read::count(), 32);
-    let end = read::least(read::count(), 32);
-    Lengths {
-        waypoints,
-        start,
-        end,
-        all: waypoints + start + end,
-    }
-}
 
 // (A function of its own, so that what the build ensures stays out of its callers' proofs.)
 fn built(
@@ -76,14 +27,14 @@ fn asked(
     config: SplineConfig,
     points: usize,
     axes: usize,
-    n: Lengths,
+    lists: Lists,
     numbers: &[f64],
     buffer: &mut [f64],
 ) -> BuildAnswer {
-    let all = numbers.len();
-    let start = read::least(n.waypoints, all);
-    let end = start + read::least(n.start, all - start);
-    let past = end + read::least(n.end, all - end);
+    let lists = test_given::within(lists, numbers.len());
+    let start = lists.start;
+    let end = lists.end;
+    let past = lists.past;
     built(
         config,
         points,
@@ -95,40 +46,31 @@ fn asked(
     )
 }
 
-fn mode_number(mode: OutOfRangeMode) -> usize {
-    match mode {
-        OutOfRangeMode::Error => 0,
-        OutOfRangeMode::Clamp => 1,
-    }
-}
-
 // (After a part of an array was lent, only a parameter's type tells the prover its length again.)
 fn judged(seen: Seen, answer: BuildAnswer, buffer: &[f64; 16416]) -> Seen {
-    let path = answer.path;
-    let mode = path.mode;
-    let seen = seen::answered(seen, answer.number, read::count());
-    let seen = seen::whole(seen, path.order);
-    let seen = seen::whole(seen, path.segments);
-    let seen = seen::whole(seen, path.axes);
-    let seen = seen::float(seen, path.s_min.0);
-    let seen = seen::float(seen, path.s_max.0);
-    let seen = seen::float(seen, path.inv_ds);
-    let seen = seen::whole(seen, mode_number(mode));
+    let seen = test_given::answered(seen, answer);
     seen::cells(seen, buffer, read::count())
 }
 
 // There is room for a buffer of 16400 cells.
 fn call(seen: Seen) -> Seen {
-    let config = next_config();
+    let config = test_given::next_config();
     let points = read::count();
     let axes = read::count();
-    let n = next_lengths();
+    let lists = test_given::next_lists();
     let lent = read::least(read::count(), 16400);
     let mut numbers = [0.0; 2400];
-    read::floats(&mut numbers, n.all);
+    read::floats(&mut numbers, lists.past);
     let mut buffer = [0.0; 16416];
     seen::fill(&mut buffer);
-    let answer = asked(config, points, axes, n, &numbers, &mut buffer[8..8 + lent]);
+    let answer = asked(
+        config,
+        points,
+        axes,
+        lists,
+        &numbers,
+        &mut buffer[8..8 + lent],
+    );
     judged(seen, answer, &buffer)
 }
 

@@ -86,7 +86,7 @@ recordOf p = record {
   mode = modeNumber (p .mode);
 }
 
--- What a build answers: the number, and the record beside it.
+-- What a build answers, and a preview: the number, and the record beside it.
 abbrev pub answerOf : BuildAnswer → RawAnswer
 answerOf a = record { number = a .number; path = recordOf (a .path) }
 
@@ -94,7 +94,7 @@ answerOf a = record { number = a .number; path = recordOf (a .path) }
 unfoldable pub RecordsComeBack : Type 0
 RecordsComeBack = (p : PathRecord) → pathOf (recordOf p) ≡ p
 
--- A refused build hands the all-zero record over. Proved by `refusals-are-blank` of proofs/Records.antt.
+-- A build that refuses hands the all-zero record over, and so does its preview. Proved by `refusals-are-blank` of proofs/Records.antt.
 unfoldable pub RefusalsAreBlank : Type 0
 RefusalsAreBlank =
     (b : BuildInput) (cells : ℕ) → (buildNumber b cells ≡ 0 → ⊥)
@@ -120,8 +120,8 @@ placeOf p = record { number = p .number; at = p .at }
 abbrev pub sheetAnswerOf : SheetAnswer → RawSheet
 sheetAnswerOf a = record { number = a .number; at = a .at; path = recordOf (a .path) }
 
--- The numbers that `spline_build`, `spline_query` and `spline_check_master` can answer, and those that both exports for job sheets can;
--- include/tezvorup.h has a name for each.
+-- The numbers that `spline_build` and `spline_preview`, `spline_query` and `spline_check_master` can answer, and those that both exports for job
+-- sheets can; include/tezvorup.h has a name for each.
 abbrev pub buildNumbers : List ℕ
 buildNumbers = 0 ∷ 2 ∷ 3 ∷ 4 ∷ 300 ∷ 301 ∷ 302 ∷ 303 ∷ 304 ∷ []
 

@@ -4,16 +4,15 @@ use mathlib.Core.List.{List}
 use Prim.Native.Nat.{ℕ, _+_, _*_, _-_, _<_, _≤_}
 use native.Mathlib.Nat.{add-zero, le-of-eq}
 use native.Mathlib.Omega.{arith}
-use lib.Dec.{T, leb→le}
 use lib.ListN.{length, take, drop}
 use lib.Seq.{take-all}
 use lib.Ieee.{Float}
 use Rattle.rules.specs.Tables.{mOf}
-use Rattle.rules.specs.Build.{BuildInput, validOrder, buildQuestions, buildNumber}
+use Rattle.rules.specs.Build.{BuildInput, buildNumber}
 use Rattle.rules.specs.Build.{axisCoefficients, axisWaypoints, axisState, table}
 use Rattle.law_lists.proofs.Lists.{joined-part}
-use Rattle.rules.proofs.Questions.{answerAt, said-yes}
 use Rattle.rules.proofs.Build.{length-axis, length-state, coefficient-count}
+use Rattle.rules.proofs.BuildAnswers.{order-known, points-known}
 use Rattle.theorem_builds.specs.Independent.{axisPart}
 
 -- what the rules compute for an axis
@@ -24,24 +23,12 @@ coefficientsOf b axis =
     (axisState b (b .config .«end_state») (b .end) axis)
 
 module _ (b : BuildInput) (cells : ℕ) (accepted : buildNumber b cells ≡ 0) where
-  said-yes-to : (k : ℕ) → T (answerAt (buildQuestions b cells) k)
-  unfolding buildNumber buildQuestions
-  said-yes-to = said-yes (buildQuestions b cells) tt accepted
-
-  pub order-valid : T (validOrder (b .config .order))
-  unfolding buildQuestions
-  order-valid = said-yes-to 0
-
-  two-points : 2 ≤ b .points
-  unfolding buildQuestions
-  two-points = leb→le 2 (b .points) (said-yes-to 1)
-
   pub axis-length : (axis : ℕ) → length (coefficientsOf b axis) ≡ (b .points - 1) * (b .config .order + 1)
   unfolding coefficientsOf
   axis-length axis =
-      let h : 2 ≤ b .points = two-points in
+      let h : (2 ≤ b .points) × (b .points ≤ 257) = points-known b cells accepted in
       length-axis _ _ _ _ _ (length-state b _ _ axis) (length-state b _ _ axis)
-      ∙ ap₂ (λ (x y : ℕ). x * y) (omega arith) (coefficient-count _ order-valid)
+      ∙ ap₂ (λ (x y : ℕ). x * y) (omega arith) (coefficient-count _ (order-known b cells accepted))
 
   pub part-is : (axis : ℕ) → axis < b .axes → axisPart b axis ≡ coefficientsOf b axis
   unfolding axisPart table coefficientsOf

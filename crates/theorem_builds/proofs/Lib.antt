@@ -1,3 +1,4 @@
 pub mod AxisPart
 pub mod Independent
 pub mod Served
+pub mod Previews

@@ -1,2 +1,3 @@
 pub mod Independent
 pub mod Served
+pub mod Previews

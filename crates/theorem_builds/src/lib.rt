@@ -1,1 +1,2 @@
-// Theorems about builds: axes are independent, and what was built is served. Statements in specs/. There is no code here.
+// Theorems about builds: axes are independent, what was built is served, and a preview is the build's answer. Statements in specs/.
+// There is no code here.

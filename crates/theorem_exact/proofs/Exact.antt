@@ -29,9 +29,10 @@ use Rattle.law_lists.proofs.Lists.{all-at, all-of, length-listed}
 use Rattle.law_lists.proofs.Filling.{all-listed, listed-ext}
 use Rattle.rules.proofs.Master.{of-equations}
 use Rattle.rules.proofs.Build.{length-segment, coefficient-count}
+use Rattle.rules.proofs.BuildAnswers.{order-known}
 use Rattle.theorem_builds.specs.Independent.{marked, givenNumber, axisPart}
 use Rattle.theorem_exact.specs.Exact.{wholeWithin, wholeState, WholeTwoPoints, givenState, axisSet, Exact, TwoPointsAreExact}
-use Rattle.theorem_builds.proofs.AxisPart.{coefficientsOf, order-valid, part-is}
+use Rattle.theorem_builds.proofs.AxisPart.{coefficientsOf, part-is}
 use Rattle.theorem_builds.proofs.Independent.{boundary-is}
 use Rattle.theorem_exact.proofs.Sums.{form}
 use Rattle.theorem_exact.proofs.Tables.{coefficientForm, TableFacts, table-facts}
@@ -211,7 +212,7 @@ module _ (b : BuildInput) (cells axis : ℕ) (accepted : buildNumber b cells ≡
   exact-axis : Exact (axisPart b axis) (axisSet b axis)
   exact-axis =
       subst₂ Exact (sym part) (sym set-is)
-      (exact-segment (b .config .order) (waypoint 0) (waypoint 1) start end (order-valid b cells accepted)
+      (exact-segment (b .config .order) (waypoint 0) (waypoint 1) start end (order-known b cells accepted)
       (length-given (b .config .«start_state») (b .start))
       (length-given (b .config .«end_state») (b .end))
       waypoints-within
