@@ -66,7 +66,7 @@ fn lengths(b: &Build) -> Vec<usize> {
 }
 
 /// Every order with every count of points and axes, then so many calls at random, half of them to be refused; one in ten of
-/// all is asked about with many lengths.
+/// all is asked about with many lengths, and three with every length that a buffer here has.
 pub fn compare(count: u64) {
     let (mut random, mut modes) = (Random(0x3c6e_f372_fe94_f82b), Random(0x6295_9a15_2d4a_6b1d));
     let (mut beside, mut beyond) = (Refusals::default(), Refusals::default());
@@ -98,6 +98,13 @@ pub fn compare(count: u64) {
     every(&mut random, &mut call);
     for trial in 0..count {
         call(if trial % 2 == 0 { served(&mut random) } else { doubtful(&mut random) });
+    }
+    for (order, points, axes) in [(3, 2, 1), (5, 16, 2), (7, 257, 8)] {
+        let mut b = Build::random(&mut random, order, points, axes);
+        for cells in 0..=CELLS {
+            b.cells = cells;
+            ask(&b, b.clamp.into());
+        }
     }
     beside.print("previews", "the build's own answer on copies, and document 01's questions as plain tests");
     beyond.print("previews told a length that no buffer has", "document 01's questions as plain tests");

@@ -43,9 +43,6 @@ module _ (b : BuildInput) (before : List Float) (e : buildNumber b (length befor
   yes-to : (k : ℕ) → T (answerAt (buildQuestions b (length before)) k)
   yes-to = answered b (length before) e
 
-  pub points-bounds : (2 ≤ b .points) × (b .points ≤ 257)
-  points-bounds = points-known b (length before) e
-
   pub order-bounds : let order = b .config .order in (1 ≤ order) × (1 ≤ mOf order) × (mOf order ≤ 3)
   order-bounds =
       by-order (λ order. (1 ≤ order) × (1 ≤ mOf order) × (mOf order ≤ 3))
@@ -55,7 +52,7 @@ module _ (b : BuildInput) (before : List Float) (e : buildNumber b (length befor
   pub planned : (inv : Float) → Planned (planOf b inv) (b .waypoints) (b .start) (b .end)
   unfolding buildQuestions
   planned inv =
-      let known : (2 ≤ b .points) × (b .points ≤ 257) = points-bounds in
+      let known : (2 ≤ b .points) × (b .points ≤ 257) = points-known b (length before) e in
       record {
         some = order-bounds .1;
         few = order-bounds .2;
@@ -69,13 +66,13 @@ module _ (b : BuildInput) (before : List Float) (e : buildNumber b (length befor
   pub cells-are : length before ≡ b .axes * ((b .points - 2 + 1) * (2 * mOf (b .config .order) + 2))
   unfolding buildQuestions
   cells-are =
-      let known : (2 ≤ b .points) × (b .points ≤ 257) = points-bounds in
+      let known : (2 ≤ b .points) × (b .points ≤ 257) = points-known b (length before) e in
       eqb→eq _ _ (yes-to 7) ∙ mul-assoc (b .axes) (b .points - 1) (b .config .order + 1)
       ∙ ap₂ (λ (segments cells : ℕ). b .axes * (segments * cells)) (omega arith) (sym (coefficient-count _ (order-known b (length before) e)))
 
   pub table-is : allAxes (planOf b (acceptedRecord b .«inv_ds»)) (b .waypoints) (b .start) (b .end) ≡ table b
   unfolding table axisWaypoints axisState
   table-is =
-      let known : (2 ≤ b .points) × (b .points ≤ 257) = points-bounds in
+      let known : (2 ≤ b .points) × (b .points ≤ 257) = points-known b (length before) e in
       let points-are : b .points - 2 + 2 ≡ b .points = omega arith in
       joined-ext (b .axes) _ _ (λ axis l. rw points-are)

@@ -40,7 +40,7 @@ pub fn record_of(built: PathRecord) -> RawPath
     }
 }
 
-// B13, B15: a build's answer.
+// B13, B15, V2: a build's answer, and a preview's.
 pub fn answer_of(answer: BuildAnswer) -> RawAnswer
     ensures { λ r. ⌜ r ≡ answerOf answer ⌝ }
 {

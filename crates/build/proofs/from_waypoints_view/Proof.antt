@@ -2,16 +2,15 @@
 -- behind it. Assumes nothing.
 use mathlib.Core.Path.{_≡_, sym, ap, _∙_}
 use mathlib.Core.List.{List}
-use Prim.Native.Nat.{ℕ, _≤_}
-use native.Mathlib.Omega.{arith}
+use Prim.Native.Nat.{ℕ}
 use borrow.Author.Needs.{needs}
 use lib.ListN.{length}
 use lib.Ieee.{Float}
 use Rattle.rules.specs.declared.BuildAnswer.{BuildAnswer}
 use Rattle.rules.specs.Build.{BuildInput, buildNumber, buildAnswer, inputOf}
-use Rattle.rules.proofs.BuildAnswers.{accepted-answer, refused-buffer, accepted-buffer}
+use Rattle.rules.proofs.BuildAnswers.{accepted-answer, points-known, refused-buffer, accepted-buffer}
 use Rattle.build_filling.specs.AllAxes.{allAxes}
-use Rattle.build.proofs.InputKnown.{planOf, order-bounds, points-bounds, planned, cells-are, table-is}
+use Rattle.build.proofs.InputKnown.{planOf, order-bounds, planned, cells-are, table-is}
 use Rattle.build.proofs.from_waypoints_view.Statement.{statement}
 use Rattle.build.proofs.from_waypoints_view.Tie as tie
 
@@ -82,7 +81,7 @@ from-waypoints-view-spec =
     (λ c κs. search needs)
     returns
     (λ c. let d = c .before in order-bounds (given (asked d)) (buffer (asked d)) (said-yes d) .0)
-    (λ c. let d = c .before in points-bounds (given (asked d)) (buffer (asked d)) (said-yes d) .0)
+    (λ c. let d = c .before in points-known (given (asked d)) (length (buffer (asked d))) (said-yes d) .0)
     fill-requires
     (λ c. search needs)
     returns-2)
