@@ -157,12 +157,12 @@ spline_answer spline_build(spline_config config, size_t points, size_t axes,
                            double *coefficients, size_t coefficient_count);
 
 /*
- * Asks before the build: the number and the record that spline_build answers which is given the same, and coefficients of
- * this count. So while a customer waits, it tells whether the points will be taken, and the loaded table stays as it is:
- * nothing is lent that could be written to. The count is any number, also one that no list has.
+ * Asks before the build: answers the number and the record that spline_build would, given the same and a table of this
+ * count. So while a customer waits, it tells whether the points will be taken, and the loaded table stays as it is: it is
+ * not lent. The count is any number, also one that no list has.
  *
- * Answers as spline_build does, at refusals too; that the two are equal for all that can be given is proved
- * (PreviewIsTheBuild, crates/theorem_builds/specs/Previews.antt). It takes the time of the questions alone.
+ * That it answers what spline_build then does, refusals included, is proved for all that can be given
+ * (PreviewIsTheBuild, crates/theorem_builds/specs/Previews.antt). It costs the questions alone, and no solving.
  */
 spline_answer spline_preview(spline_config config, size_t points, size_t axes,
                              const double *waypoints, size_t waypoint_count,

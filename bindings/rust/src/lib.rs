@@ -180,8 +180,8 @@ pub fn coefficient_count(order: usize, points: usize, axes: usize) -> usize {
     }
 }
 
-/// Asks before the build: what [`from_waypoints_view`] answers that is given the same and a buffer of so many cells, its record
-/// or its refusal. It is lent no buffer, so a table that is in use stays as it is; `cells` may be any number.
+/// Asks before the build: answers what [`from_waypoints_view`] would, given the same and a buffer of so many cells, its record or
+/// its refusal. It is lent no buffer, so a table that is in use stays as it is; `cells` may be any number.
 ///
 /// ```
 /// use tezvorup::{coefficient_count, from_waypoints_view, preview_view, PathError, SplineConfig};
@@ -219,8 +219,8 @@ pub fn preview_view(config: &SplineConfig, points: usize, axes: usize, waypoints
 }
 
 /// Builds the curve through points of so many axes, given point after point, into a buffer of exactly
-/// [`coefficient_count`] cells: by axis, then segment, then power. Refused, the buffer holds what it held; whether it will be,
-/// [`preview_view`] tells.
+/// [`coefficient_count`] cells: by axis, then segment, then power. Refused, the buffer holds what it held;
+/// [`preview_view`] tells beforehand.
 pub fn from_waypoints_view(
     config: &SplineConfig,
     points: usize,
@@ -368,8 +368,8 @@ fn point_count(axes: usize, numbers: &[f64]) -> usize {
 }
 
 impl SplinePath {
-    /// Asks before the build: the record of the curve that [`from_waypoints`](Self::from_waypoints) makes of the same, or its
-    /// refusal. Nothing is built and nothing allocated.
+    /// Asks before the build: the record of the curve that [`from_waypoints`](Self::from_waypoints) would make, given the same, or
+    /// its refusal. Nothing is built and nothing allocated.
     pub fn preview(config: &SplineConfig, axes: usize, numbers: &[f64]) -> Result<PathRecord, PathError> {
         let points = point_count(axes, numbers);
         preview_view(config, points, axes, numbers, coefficient_count(config.order, points, axes))

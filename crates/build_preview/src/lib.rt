@@ -7,8 +7,8 @@ use build_records::refused;
 use rules::BuildAnswer;
 use rules::SplineConfig;
 
-// A1, V1, V2, V3, V4, V7: the number and the record that a build gives which is given the same, and a buffer of so many cells. The
-// length is any number, also one that no buffer has. Nothing is lent that could be written to.
+// A1, V1, V2, V3, V4, V7: the number and the record that a build would give, given the same and a buffer of so many cells. The length
+// is any number, also one that no buffer has. Nothing is lent that could be written to.
 pub fn preview(
     config: SplineConfig,
     points: usize,
