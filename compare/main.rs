@@ -8,6 +8,7 @@
 //!   masters trials    the last trials of crates/test_master
 //!   builds trials     the last trials of crates/test_build
 //!   previews trials   the trials of crates/test_preview
+//!   previews compare N  what is compared of previews: N calls at random, and every shape
 //!   previews time     a preview beside the build, a row each
 //!   sheets compare N  what is compared of job sheets: N judgements, and fewer builds and runs of the program
 //!   sheets time       what is timed of them
@@ -65,6 +66,7 @@ fn main() {
         ["masters", "trials"] => masters::trials(),
         ["builds", "trials"] => builds::trials(),
         ["previews", "trials"] => previews::trials(),
+        ["previews", "compare", count] => previews::compare(count.parse().expect("a whole number")),
         ["previews", "time"] => previews::time(),
         ["sheets", "compare", count] => sheets::compare(count.parse().expect("a whole number")),
         ["sheets", "time"] => sheets::time(),

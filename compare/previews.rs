@@ -40,8 +40,8 @@ fn expected(b: &Build) -> (u32, spline_path) {
 
 // ---- compare
 
-/// A buffer of a build has no more cells: those of the longest table, and some.
-const CELLS: usize = 20_000;
+/// A buffer of a build has no more cells here; the longest table has 16,384.
+const CELLS: usize = 1 << 16;
 
 fn same(answer: &spline_answer, number: u32, path: &spline_path) -> bool {
     answer.number == number && same_record(&answer.path, path)
@@ -66,7 +66,7 @@ fn lengths(b: &Build) -> Vec<usize> {
 }
 
 /// Every order with every count of points and axes, then so many calls at random, half of them to be refused; one in ten of
-/// all is asked about with many lengths, and three with every length that a buffer here has.
+/// all is asked about with many lengths, and three with every length up to 20,000.
 pub fn compare(count: u64) {
     let (mut random, mut modes) = (Random(0x3c6e_f372_fe94_f82b), Random(0x6295_9a15_2d4a_6b1d));
     let (mut beside, mut beyond) = (Refusals::default(), Refusals::default());
@@ -101,13 +101,13 @@ pub fn compare(count: u64) {
     }
     for (order, points, axes) in [(3, 2, 1), (5, 16, 2), (7, 257, 8)] {
         let mut b = Build::random(&mut random, order, points, axes);
-        for cells in 0..=CELLS {
+        for cells in 0..=20_000 {
             b.cells = cells;
             ask(&b, b.clamp.into());
         }
     }
     beside.print("previews", "the build's own answer on copies, and document 01's questions as plain tests");
-    beyond.print("previews told a length that no buffer has", "document 01's questions as plain tests");
+    beyond.print("previews told a length that no buffer here has", "document 01's questions as plain tests");
 }
 
 // ---- time
