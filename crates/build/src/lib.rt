@@ -1,4 +1,6 @@
 // The entry point of the build: a preview (crates/build_preview), and where it refuses nothing the filling (crates/build_table).
+#![tactic(auto)]
+
 ghost use Rattle.std.specs.Prelude.{◌≡◌, length};
 ghost use Rattle.rules.specs.Build.{input_of, build_answer, buffer_after};
 

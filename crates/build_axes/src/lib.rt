@@ -1,5 +1,7 @@
 // All axes of a build: the inner nodes' matrices are factored, and the coefficients filled in with them. Every question is
 // answered before (crates/build_questions).
+#![tactic(auto)]
+
 ghost use Rattle.std.specs.Prelude.{◌≡◌, ◌+◌, ◌*◌, ◌≤◌, length};
 ghost use Rattle.theorem_pivots.specs.Repeating.{distinct};
 ghost use Rattle.build_nodes.specs.NodeLists.{Room};

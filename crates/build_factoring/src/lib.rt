@@ -1,5 +1,7 @@
 // "Factoring (Golub and Van Loan, partial pivoting)" in place: the upper factor on and above the
 // diagonal, the multipliers below it, and beside them which row of the matrix each row was.
+#![tactic(auto)]
+
 ghost use Rattle.std.specs.Prelude.{◌≡◌, ◌+◌, ◌-◌, ◌*◌, ◌<◌, List, [], length, Float};
 ghost use Rattle.build_factoring.specs.Steps.{eliminated_to};
 ghost use Rattle.rules.specs.Solve.{entry, eliminated, factor};

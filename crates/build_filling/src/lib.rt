@@ -1,5 +1,7 @@
 // The coefficients of all axes, one axis after the other, into the caller's table. Every question is answered before
 // (crates/build_questions).
+#![tactic(auto)]
+
 ghost use Rattle.std.specs.Prelude.{◌≡◌, ◌+◌, ◌*◌, ◌≤◌, length};
 ghost use Rattle.build_filling.specs.AllAxes.{Shared, all_axes};
 

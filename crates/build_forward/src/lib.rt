@@ -1,6 +1,8 @@
 // The forward half of solving with a factored matrix of m rows (crates/build_factoring), of module 4 of document 01: "each number
 // once found, its products are subtracted one at a time from the rows still to be solved". What each function does is said by the
 // definitions of crates/rules/specs/Solve.antt, for every m.
+#![tactic(auto)]
+
 ghost use Rattle.std.specs.Prelude.{◌≡◌, ◌*◌, ◌<◌, length, get_or};
 ghost use Rattle.rules.specs.Floats.{◌!◌};
 ghost use Rattle.law_lists.specs.Lists.{listed};

@@ -1,6 +1,8 @@
 // The matrices of a build's inner nodes, which its order and the node's place alone decide, factored
 // and solved with by crates/build_solving. What each function does is said by the definitions of
 // crates/rules/specs/Solve.antt, for every m.
+#![tactic(auto)]
+
 ghost use Rattle.std.specs.Prelude.{◌≡◌, ◌+◌, ◌*◌, ◌≤◌, ◌<◌, ◌++◌, length, drop};
 ghost use Rattle.law_lists.specs.Lists.{listed};
 ghost use Rattle.rules.specs.Solve.{matrix, node_matrix, node_factors};

@@ -1,5 +1,7 @@
 // The pivots of a matrix of m rows, and the exchange of its rows: of module 4 of document 01, below factoring. What each function
 // does is said by the definitions of crates/rules/specs/Solve.antt, for every m.
+#![tactic(auto)]
+
 ghost use Rattle.std.specs.Prelude.{◌≡◌, suc, ◌+◌, ◌-◌, ◌*◌, ◌≤◌, ◌<◌, length, get_or};
 ghost use Rattle.rules.specs.Floats.{magnitude};
 ghost use Rattle.law_lists.specs.Lists.{listed};

@@ -1,4 +1,6 @@
 // What a build goes by, and the numbers of the first and the last node, which are made of the states that it is given.
+#![tactic(auto)]
+
 ghost use Rattle.std.specs.Prelude.{◌≡◌, ◌+◌, ◌≤◌, ◌<◌, length};
 ghost use Rattle.law_lists.specs.Lists.{listed};
 ghost use Rattle.rules.specs.Build.{divided, boundary_number};
@@ -7,7 +9,7 @@ ghost use Rattle.build_plan.specs.Given.{HasNumbers, BothEnds};
 use rules::BoundaryState;
 
 // What a build goes by, its lists aside: m, the inner nodes, the axes, inv_ds, and both states.
-#[derive(Drop)]
+#[derive(Clone, Copy)]
 pub struct Plan {
     pub m: usize,
     pub n: usize,

@@ -1,5 +1,7 @@
 // V8: ask before the build: what it would answer, without a buffer. The build is this and then the filling (crates/build), so no
 // question is asked and no record is made in a second place.
+#![tactic(auto)]
+
 ghost use Rattle.std.specs.Prelude.{◌≡◌};
 ghost use Rattle.rules.specs.Build.{input_of, build_answer};
 

@@ -1,5 +1,7 @@
 // Wish 3 as a promise of code: a preview and the build behind it, both called, so that the theorem on the two
 // (crates/theorem_builds/specs/Previews.antt) is held to the contracts that they have.
+#![tactic(auto)]
+
 ghost use Rattle.std.specs.Prelude.{◌≡◌, length};
 ghost use Rattle.rules.specs.Build.{input_of};
 ghost use Rattle.theorem_builds.specs.Previews.{Previewed, Built};
@@ -9,7 +11,7 @@ use build_preview::preview;
 use rules::{BuildAnswer, SplineConfig};
 
 // What a preview told, and what the build then answered.
-#[derive(Drop)]
+#[derive(Clone, Copy)]
 pub struct PreviewedBuild {
     pub told: BuildAnswer,
     pub answer: BuildAnswer,

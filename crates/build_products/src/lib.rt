@@ -3,6 +3,8 @@
 //
 // A matrix to be factored is a list, row by row, as in the definitions. One that is only multiplied
 // with, or solved with column by column, is kept by columns: `transposed`.
+#![tactic(auto)]
+
 ghost use Rattle.std.specs.Prelude.{◌≡◌, ◌+◌, ◌*◌, ◌≤◌, ◌<◌, length};
 ghost use Rattle.rules.specs.Floats.{◌⊗◌, ◌!◌, sum_of};
 ghost use Rattle.rules.specs.Solve.{times, minus};

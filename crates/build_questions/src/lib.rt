@@ -1,5 +1,7 @@
 // Document 01's questions before a build. They look at the coefficient buffer's length alone, so that they can be asked
 // without a buffer.
+#![tactic(auto)]
+
 ghost use Rattle.std.specs.Prelude.{◌≡◌, ◌≤◌};
 ghost use Rattle.rules.specs.Floats.{finite};
 ghost use Rattle.law_lists.specs.Lists.{all};

@@ -1,4 +1,6 @@
 // The records that a build answers with: that of a path that was built, and that of a refusal.
+#![tactic(auto)]
+
 ghost use Rattle.std.specs.Prelude.{◌≡◌, List, ◌≤◌, Float};
 ghost use Rattle.rules.specs.Build.{input_of, accepted_record, refused_record};
 

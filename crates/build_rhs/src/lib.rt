@@ -1,5 +1,7 @@
 // Waypoints and their differences, and the right side of an inner node that they give, module 3 of document 01. What the
 // functions are held to stands in crates/rules/specs/Build.antt.
+#![tactic(auto)]
+
 ghost use Rattle.std.specs.Prelude.{◌≡◌, suc, ◌+◌, ◌*◌, ◌<◌, length};
 ghost use Rattle.rules.specs.Floats.{◌⊗◌, ◌⊕◌, ◌⊖◌, ◌!◌};
 ghost use Rattle.law_lists.specs.Lists.{listed};

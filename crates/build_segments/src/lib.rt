@@ -1,5 +1,7 @@
 // What a segment is made of, module 3 of document 01. What its functions are held to stands in
 // crates/rules/specs/Build.antt; where the code keeps the numbers of a node, in specs/.
+#![tactic(auto)]
+
 ghost use Rattle.std.specs.Prelude.{◌≡◌, ◌+◌, ◌*◌, ◌≤◌, ◌<◌, length};
 ghost use Rattle.law_lists.specs.Lists.{listed};
 ghost use Rattle.rules.specs.Solve.{entry};

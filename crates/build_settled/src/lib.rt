@@ -1,5 +1,7 @@
 // Which inner nodes' matrices a build factors. The matrices repeat (`NodesRepeat` of crates/theorem_pivots), so the first few have
 // all of them. What the functions answer is said by the definitions of crates/theorem_pivots/specs/Repeating.antt.
+#![tactic(auto)]
+
 ghost use Rattle.std.specs.Prelude.{◌≡◌, min};
 ghost use Rattle.theorem_pivots.specs.Repeating.{settled, distinct};
 

@@ -1,4 +1,6 @@
 // Document 01's questions before a build that are asked of counts alone, 1 to 5.
+#![tactic(auto)]
+
 ghost use Rattle.std.specs.Prelude.{◌≡◌};
 ghost use Rattle.rules.specs.Questions.{first_no};
 ghost use Rattle.build_shape.specs.Shape.{shape_questions};

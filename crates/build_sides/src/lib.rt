@@ -1,5 +1,7 @@
 // The right side at an inner node, and solving it with the node's factored matrix: of module 5 of document 01. What its functions
 // are held to stands in crates/rules/specs/Build.antt; what they are lent, in specs/.
+#![tactic(auto)]
+
 ghost use Rattle.std.specs.Prelude.{◌≡◌, cond, List, suc, ◌+◌, ◌-◌, ◌*◌, ◌^◌, ◌≤◌, ◌<◌, length, Float};
 ghost use Rattle.rules.specs.Solve.{times, minus, solve, node_factors};
 ghost use Rattle.rules.specs.Build.{dy, bounded_side, solved_side};

@@ -1,5 +1,7 @@
 // Solving with a factored matrix of m rows (crates/build_factoring), of module 4 of document 01: forward (crates/build_forward), and
 // then back, in the same way. What each function does is said by the definitions of crates/rules/specs/Solve.antt, for every m.
+#![tactic(auto)]
+
 ghost use Rattle.std.specs.Prelude.{◌≡◌, ◌*◌, ◌<◌, length};
 ghost use Rattle.rules.specs.Solve.{forward, solve, solve_matrix};
 ghost use Rattle.build_products.specs.Columns.{transposed, Below};

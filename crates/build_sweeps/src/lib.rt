@@ -1,6 +1,8 @@
 // The inner nodes of one axis, module 5 of document 01: their right sides solved forward, and their numbers found back. The nodes'
 // matrices are factored already, once for all axes. What its functions are held to stands in crates/rules/specs/Build.antt;
 // what they are lent, in specs/.
+#![tactic(auto)]
+
 ghost use Rattle.std.specs.Prelude.{◌≡◌, List, ◌++◌, suc, ◌+◌, ◌-◌, ◌*◌, ◌≤◌, length, take, drop, Float};
 ghost use Rattle.law_lists.specs.Lists.{joined};
 ghost use Rattle.rules.specs.Solve.{times, minus, solved_c_of};

@@ -1,4 +1,6 @@
 // The table of a build: the lists per node, which factoring and filling (crates/build_axes) are lent.
+#![tactic(auto)]
+
 ghost use Rattle.std.specs.Prelude.{◌≡◌, ◌+◌, ◌*◌, length};
 ghost use Rattle.build_plan.specs.Given.{Planned};
 ghost use Rattle.build_filling.specs.AllAxes.{all_axes};

@@ -1,10 +1,12 @@
 // The tables of document 01, as the source's `BlockMatrices` has them.
+#![tactic(auto)]
+
 ghost use Rattle.std.specs.Prelude.{◌≤◌};
 ghost use Rattle.build_tables.specs.Tables.{Matrices};
 
 // For an m: A and C by columns, which is how products and solving go through them, B, R and H by
 // rows. Each has room for m = 3; a smaller m leaves the rest zero.
-#[derive(Drop)]
+#[derive(Clone, Copy)]
 pub struct BlockMatrices {
     pub a: [f64; 9],
     pub b: [f64; 9],

@@ -1,6 +1,8 @@
 // One axis of a build by the block-Thomas algorithm, module 5 of document 01: the numbers of its inner nodes (crates/build_sweeps),
 // and its segments written from them. What its functions are held to stands in crates/rules/specs/Build.antt; what they are
 // lent, in specs/.
+#![tactic(auto)]
+
 ghost use Rattle.std.specs.Prelude.{◌≡◌, ◌+◌, ◌*◌};
 ghost use Rattle.law_lists.specs.Lists.{joined};
 ghost use Rattle.rules.specs.Build.{axis_coefficients};

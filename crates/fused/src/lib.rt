@@ -1,4 +1,6 @@
 // The fused multiply-add, module 1 of document 01: a * b + c with one rounding, for all operands.
+#![tactic(auto)]
+
 ghost use Rattle.std.specs.Prelude.{◌≡◌, not, is_nan};
 ghost use Rattle.std.specs.Float.{binary64};
 ghost use Rattle.rules.specs.Fused.{fused};

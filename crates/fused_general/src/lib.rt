@@ -1,4 +1,6 @@
 // The fused multiply-add in the general case: a * b + c with one rounding, whatever the operands are.
+#![tactic(auto)]
+
 ghost use Rattle.std.specs.Prelude.{◌≡◌, true};
 ghost use Rattle.std.specs.Float.{binary64};
 ghost use Rattle.std.specs.Float.Ieee.Scale as Scale;
@@ -9,7 +11,7 @@ use fused_align::rounded_sum;
 use fused_words::{HIDDEN, SIGN, product};
 
 // The magnitude of a float: `digits` * 2^`exponent` / 2^1136.
-#[derive(Drop)]
+#[derive(Clone, Copy)]
 struct Parts {
     digits: u64,
     exponent: u64,

@@ -2,6 +2,8 @@
 // addend's last bit is no lower than the product's. Then product and addend fit two words together,
 // with nothing cut off but the last bits of a product that lies far below the addend; and the
 // machine's own conversion and addition of floats round the result.
+#![tactic(auto)]
+
 ghost use Rattle.std.specs.Prelude.{◌≡◌, ℕ, ◌+◌, ◌-◌, ◌*◌, ◌%◌, ◌^◌, ◌≤◌, ◌<◌, ◌⊎◌, true, false, cond};
 ghost use Rattle.std.specs.Float.Ieee.Exact.{HasValue};
 ghost use Rattle.law_rounding.specs.Sticky.{Sticky};

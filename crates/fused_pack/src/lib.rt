@@ -2,6 +2,8 @@
 //
 // Each contract speaks of every number that the bits stand for: x / v, where the word or words are
 // x / v with a sticky last bit. So no function here has to know what was cut off.
+#![tactic(auto)]
+
 ghost use Rattle.std.specs.Prelude.{◌≡◌, ℕ, ◌+◌, ◌*◌, ◌^◌, ◌≤◌, ◌<◌, min};
 ghost use Rattle.std.specs.Float.{binary64};
 ghost use Rattle.std.specs.Float.Ieee.{round};

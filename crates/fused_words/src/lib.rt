@@ -1,5 +1,7 @@
 // Numbers of two words, for the fused multiply-add: exact products, sums and differences, and a shift to the
 // right that keeps in its last bit whether something was shifted out.
+#![tactic(auto)]
+
 ghost use Rattle.std.specs.Prelude.{◌≡◌, ◌+◌, ◌-◌, ◌*◌, ◌/◌, ◌^◌, ◌<◌, ◌≤◌, nat_lt};
 ghost use Rattle.law_rounding.specs.Sticky.{Sticky};
 ghost use Rattle.fused_words.specs.Words.{value, flag};
@@ -11,7 +13,7 @@ pub const SIGN: u64 = 0x8000_0000_0000_0000;
 pub const HIDDEN: u64 = 0x10_0000_0000_0000;
 
 // `high` * 2^64 + `low`.
-#[derive(Drop)]
+#[derive(Clone, Copy)]
 pub struct Words {
     pub high: u64,
     pub low: u64,

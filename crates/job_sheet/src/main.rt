@@ -1,5 +1,7 @@
 // J9: the program that reads a job sheet from standard input and prints its table or its refusal, as document 02's Wish 1 has it.
 // What it prints is sheet_print::print_sheet's to say, whatever the bytes are.
+#![tactic(auto)]
+
 use libc::{STDIN_FILENO, STDOUT_FILENO};
 
 // The first bytes of a list, or all of them where it has no more.

@@ -1,5 +1,7 @@
 // The check of masters, module 7 of document 01: one axis in whole numbers. It asks its questions, then
 // goes over the table once, segment by segment. What it is held to stands in crates/rules/specs/Master.antt.
+#![tactic(auto)]
+
 ghost use Rattle.std.specs.Prelude.{◌≡◌, length};
 ghost use Rattle.rules.specs.Master.{set_of, check_master, master_says};
 ghost use Rattle.master_equations.specs.Segment.{Shaped};

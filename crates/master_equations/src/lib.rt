@@ -1,5 +1,7 @@
 // The equations of one segment of a master, and those of the start state: what the check (crates/master) asks of each segment in
 // turn. It is not open to callers of the library: it is lent what the check has found to be in order.
+#![tactic(auto)]
+
 ghost use Rattle.std.specs.Prelude.{◌≡◌, ◌&&◌, ℕ, ◌+◌, ◌-◌, ◌<◌, ◌≤◌, length};
 ghost use Rattle.rules.specs.Master.{meets_start};
 ghost use Rattle.master_numbers.specs.Sums.{Summable};

@@ -1,5 +1,7 @@
 // Document 01's questions before a master check. The last one, whether every number is within ±2^40, is asked
 // here of the waypoints and of both states; of the table it is asked segment by segment, in the pass over it.
+#![tactic(auto)]
+
 ghost use Rattle.std.specs.Prelude.{◌≡◌, ◌&&◌};
 ghost use Rattle.law_lists.specs.Lists.{all};
 ghost use Rattle.rules.specs.Questions.{first_no};

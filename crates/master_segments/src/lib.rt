@@ -1,5 +1,7 @@
 // One segment of a master: the range of its numbers, and then its equations. It is not open to callers of the library: it is lent
 // what the check (crates/master) has found to be in order.
+#![tactic(auto)]
+
 ghost use Rattle.std.specs.Prelude.{◌≡◌, ◌-◌, ◌<◌, length};
 ghost use Rattle.rules.specs.Master.{master_says};
 ghost use Rattle.master_equations.specs.Segment.{Shaped};

@@ -1,5 +1,7 @@
 // Demand 3: the table of a master is unique. The statement stands in specs/, its proof in proofs/. The function here
 // is the check called twice, so that a caller has demand 3 as a promise of code.
+#![tactic(auto)]
+
 ghost use Rattle.std.specs.Prelude.{◌≡◌, ◌↔◌};
 ghost use Rattle.rules.specs.declared.MasterAnswer.TheVariants.{Yes};
 ghost use Rattle.rules.specs.Master.{set_of, master_says};

@@ -1,6 +1,8 @@
 // Numbers on a job sheet whose bytes come in pieces: begin at a place, go on with some bytes as often as there are some, and finish. What
 // is kept between two pieces is one record by value, and a record that no reading makes is answered too. What each routine gives is in
 // crates/rules/specs/SheetNumbers.antt, and what holds of them together in crates/theorem_numbers/specs/Pieces.antt.
+#![tactic(auto)]
+
 ghost use Rattle.std.specs.Prelude.{◌≡◌, true, ◌&&◌, ◌^◌, ◌≤◌, eqb};
 ghost use Rattle.rules.specs.SheetNumbers.{too_large, signed_by, begun, sound, go_on, is_read, finished};
 

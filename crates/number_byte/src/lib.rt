@@ -1,4 +1,6 @@
 // One byte of a number on a job sheet: what it makes of the record that is kept, by crates/rules/specs/SheetNumbers.antt.
+#![tactic(auto)]
+
 ghost use Rattle.std.specs.Prelude.{◌≡◌, ◌^◌, ◌≤◌, true, ◌&&◌, ◌==◌};
 ghost use Rattle.rules.specs.SheetNumbers.{fresh, belongs, left, passed, with_digit, taken};
 

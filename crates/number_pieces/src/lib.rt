@@ -1,5 +1,7 @@
 // The bytes of a number on a job sheet, one after the other, as long as the record that is kept takes them. What they make of it is in
 // crates/rules/specs/SheetNumbers.antt.
+#![tactic(auto)]
+
 ghost use Rattle.std.specs.Prelude.{◌≡◌, true, ◌^◌, ◌≤◌, take, drop};
 ghost use Rattle.rules.specs.SheetNumbers.{sound, is_open, go_on};
 ghost use Rattle.theorem_numbers.specs.Pieces.{Settled, is_more};

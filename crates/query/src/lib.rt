@@ -1,5 +1,7 @@
 // The query, module 6 of document 01: where a path is at s, and its derivatives there. The lookup and the
 // evaluation are crates of their own.
+#![tactic(auto)]
+
 ghost use Rattle.rules.specs.Query.{buffers, Queried, query_of};
 
 use query_axes::eval_axes;

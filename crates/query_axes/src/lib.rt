@@ -1,4 +1,6 @@
 // The evaluation of all axes in one segment: the position and the derivatives that a level writes.
+#![tactic(auto)]
+
 ghost use Rattle.std.specs.Prelude.{◌≡◌, true, cond, ◌<◌, length, set};
 ghost use Rattle.rules.specs.Query.{writes, buffers, lengths_of};
 ghost use Rattle.query_axes.specs.Evaluation.{Evaluable, Evaluated};

@@ -1,4 +1,6 @@
 // Document 01's questions of a query's level, and of the buffers that the level writes. They look at lengths alone.
+#![tactic(auto)]
+
 ghost use Rattle.std.specs.Prelude.{◌≡◌, ◌&&◌};
 ghost use Rattle.rules.specs.Query.{valid_level, valid_length};
 

@@ -1,4 +1,6 @@
 // The lookup: the segment that s falls in, and how far into it.
+#![tactic(auto)]
+
 ghost use Rattle.std.specs.Prelude.{◌≡◌, ◌≤◌, false, is_nan};
 ghost use Rattle.rules.specs.Floats.{of_count};
 ghost use Rattle.rules.specs.Query as Query;

@@ -1,12 +1,14 @@
 // One turn of the loop that evaluates a segment of order 7, and what an evaluation answers: a position, and the derivatives that a
 // level asks for. Those that it does not ask for are 0 and are not worked out.
+#![tactic(auto)]
+
 ghost use Rattle.std.specs.Prelude.{◌≡◌, List, ◌∷◌, ◌+◌, T, Float};
 ghost use Rattle.rules.specs.Floats.{+0};
 ghost use Rattle.rules.specs.Query.{valid_level, general_loop, loop_derivative};
 ghost use Rattle.query_loop.specs.Level.{asked};
 
 // The position, and the first, second and third derivative.
-#[derive(Drop)]
+#[derive(Clone, Copy)]
 pub struct Derivatives {
     pub q: f64,
     pub dq: f64,

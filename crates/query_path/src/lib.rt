@@ -1,13 +1,15 @@
 // A path: its record beside the coefficients that it was lent, so that a caller hands over one thing. Each
 // function is thin and takes any operands; the work is the query's. The borrow checker covers no function over
 // a struct that holds a reference, so each is proved by hand; whoever calls `eval_path` needs no such proof.
+#![tactic(auto)]
+
 ghost use Rattle.std.specs.Prelude.{◌≡◌};
 ghost use Rattle.rules.specs.Query.{buffers, Queried, query_of};
 
 use rules::{PathParam, PathRecord};
 
 // F7: the record, and the coefficients that it was lent.
-#[derive(Drop)]
+#[derive(Clone, Copy)]
 pub struct SplinePath<'a> {
     pub path: PathRecord,
     pub coeffs: &'a [f64],

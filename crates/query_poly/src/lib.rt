@@ -1,5 +1,7 @@
 // The evaluation of one segment's coefficients a at t: the position, and the derivatives that a level asks
 // for, in segment units. Those that it does not ask for are 0 and are not worked out.
+#![tactic(auto)]
+
 ghost use Rattle.std.specs.Prelude.{◌≡◌, ◌+◌, T, length};
 ghost use Rattle.rules.specs.Build.{valid_order};
 ghost use Rattle.rules.specs.Query.{valid_level, general_loop, loop_derivative, eval_poly};

@@ -1,5 +1,7 @@
 // Document 01's questions before a query, all but the last, which the lookup answers; see the crate `query_lookup`. They look
 // at lengths alone, so that they can be asked without a buffer.
+#![tactic(auto)]
+
 ghost use Rattle.std.specs.Prelude.{◌≡◌, ◌++◌};
 ghost use Rattle.rules.specs.Questions.{first_no};
 ghost use Rattle.rules.specs.Query.{path_questions, buffer_questions};

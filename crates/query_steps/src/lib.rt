@@ -1,5 +1,7 @@
 // The evaluation of a segment of order 3 and of one of order 5: each position and derivative by fused steps, those that the level
 // asks for.
+#![tactic(auto)]
+
 ghost use Rattle.std.specs.Prelude.{◌≡◌, T, length};
 ghost use Rattle.rules.specs.Query.{valid_level, fused_derivative};
 ghost use Rattle.query_loop.specs.Level.{asked};

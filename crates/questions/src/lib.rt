@@ -1,5 +1,7 @@
 // What the questions before a build, before a query and before a check share: the order and the number of points, finite numbers,
 // and the range with its quotient.
+#![tactic(auto)]
+
 ghost use Rattle.std.specs.Prelude.{◌≡◌, ◌≤◌};
 ghost use Rattle.rules.specs.Floats.{finite};
 ghost use Rattle.rules.specs.Questions.{first_no};

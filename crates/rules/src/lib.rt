@@ -1,16 +1,17 @@
 // The types that travel between calls. What they mean, and what every function of the library is
 // held to, stands in specs/: document 01 as definitions, a file a subject. This crate has no code.
+#![tactic(auto)]
 
 // F1: a position along s: the source's path parameter.
-#[derive(Drop)]
+#[derive(Clone, Copy)]
 pub struct PathParam(pub f64);
 
 // F1: a position counted in segments: the source's normalised segment units. A segment's tau is one.
-#[derive(Drop)]
+#[derive(Clone, Copy)]
 pub struct SegmentUnits(pub f64);
 
 // What a query does with an s outside the range: refuse it, or set it to the nearest end.
-#[derive(Drop)]
+#[derive(Clone, Copy)]
 pub enum OutOfRangeMode {
     Error,
     Clamp,
@@ -18,7 +19,7 @@ pub enum OutOfRangeMode {
 
 // B12: a boundary state: none, which is all zero, or so many rows (axes) and columns (numbers of a node).
 // The numbers are a slice beside it, column-major, and nobody looks at it where the state is none.
-#[derive(Drop)]
+#[derive(Clone, Copy)]
 pub enum BoundaryState {
     None,
     Given {
@@ -29,7 +30,7 @@ pub enum BoundaryState {
 }
 
 // What a build is told beside the points and the states' numbers.
-#[derive(Drop)]
+#[derive(Clone, Copy)]
 pub struct SplineConfig {
     pub order: usize,
     pub s_min: PathParam,
@@ -40,7 +41,7 @@ pub struct SplineConfig {
 }
 
 // F6, B13: what a path is beside its coefficients. It is handed over by value, its three floats with it.
-#[derive(Drop)]
+#[derive(Clone, Copy)]
 pub struct PathRecord {
     pub order: usize,
     pub segments: usize,
@@ -52,21 +53,21 @@ pub struct PathRecord {
 }
 
 // F8, B13, B15: a build's answer: 0 or the refusal's number, with the record beside it.
-#[derive(Drop)]
+#[derive(Clone, Copy)]
 pub struct BuildAnswer {
     pub number: u32,
     pub path: PathRecord,
 }
 
 // F3, F8, Q11: a lookup's answer: a segment with its tau, or the s that was refused.
-#[derive(Drop)]
+#[derive(Clone, Copy)]
 pub enum Lookup {
     At { segment: usize, tau: SegmentUnits },
     OutOfRange(PathParam),
 }
 
 // F8, M8: a master check's answer. No is not a refusal.
-#[derive(Drop)]
+#[derive(Clone, Copy)]
 pub enum MasterAnswer {
     Yes,
     No,
@@ -74,14 +75,14 @@ pub enum MasterAnswer {
 }
 
 // J12: a refusal's number and byte place, or 0 and the sheet's length.
-#[derive(Drop)]
+#[derive(Clone, Copy)]
 pub struct SheetPlace {
     pub number: u32,
     pub at: usize,
 }
 
 // J12, J13: the same, with the record of the path that was built from the sheet.
-#[derive(Drop)]
+#[derive(Clone, Copy)]
 pub struct SheetAnswer {
     pub number: u32,
     pub at: usize,
@@ -89,7 +90,7 @@ pub struct SheetAnswer {
 }
 
 // How many bytes of output were written, or the number of a refusal.
-#[derive(Drop)]
+#[derive(Clone, Copy)]
 pub struct SheetPrinted {
     pub number: u32,
     pub count: usize,
@@ -99,7 +100,7 @@ pub struct SheetPrinted {
 // how far it is and whether a minus was read. These are numbers alone, so a caller can hand over one that no reading makes; what
 // becomes of it is in specs/SheetNumbers.antt.
 #[repr(C)]
-#[derive(Drop)]
+#[derive(Clone, Copy)]
 pub struct NumberReading {
     pub start: usize,
     pub next: usize,
@@ -110,7 +111,7 @@ pub struct NumberReading {
 
 // N1: 0, the place after a number that was read, and its worth; or a refusal's number and place, and a worth of 0.
 #[repr(C)]
-#[derive(Drop)]
+#[derive(Clone, Copy)]
 pub struct NumberAnswer {
     pub number: u32,
     pub at: usize,

@@ -1,5 +1,7 @@
 // The entry points for job sheets: a sheet's number and place, and its table. Each takes any text and a buffer of any length, and
 // looks at the first 32,768 bytes of the text.
+#![tactic(auto)]
+
 ghost use Rattle.std.specs.Prelude.{◌≡◌, length};
 ghost use Rattle.rules.specs.SheetAnswers.{sheet_place, sheet_answer, sheet_buffer};
 

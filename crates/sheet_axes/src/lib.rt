@@ -1,5 +1,7 @@
 // The axes of a job sheet, to the end of the text. What is read goes into buffers that the caller lends, at fixed distances, since
 // how many axes there are is known only at the end.
+#![tactic(auto)]
+
 ghost use Rattle.std.specs.Prelude.{◌≡◌, ◌≤◌, length};
 ghost use Rattle.sheet_axes.specs.Says.{AxesSay};
 
@@ -7,7 +9,7 @@ use sheet_axis::AxisRead;
 use sheet_sizes::{AxesSizes, with_axis};
 
 // How many axes there are and what was counted on them (crates/sheet_sizes), or a refusal.
-#[derive(Drop)]
+#[derive(Clone, Copy)]
 pub enum AxesRead {
     Is { axes: usize, sizes: AxesSizes },
     Stop { number: u32, at: usize },

@@ -1,5 +1,7 @@
 // An axis of a job sheet: three lists with fixed bytes between them, each written into a buffer that is one longer than it may be.
 // What was counted, and where, is handed on (crates/sheet_sizes).
+#![tactic(auto)]
+
 ghost use Rattle.std.specs.Prelude.{◌≡◌, ◌≤◌, ◌<◌, length};
 ghost use Rattle.rules.specs.Sheets.{bytes, within, below4};
 ghost use Rattle.rules.specs.SheetReading.{read_end};
@@ -11,7 +13,7 @@ use sheet_words::Passed;
 
 // How many numbers a start list and an end list have, as far as a buffer holds them, where each was filled up, and the place
 // after the axis.
-#[derive(Drop)]
+#[derive(Clone, Copy)]
 pub struct StateSizes {
     pub start: usize,
     pub start_over: usize,
@@ -20,14 +22,14 @@ pub struct StateSizes {
     pub next: usize,
 }
 
-#[derive(Drop)]
+#[derive(Clone, Copy)]
 pub enum StatesRead {
     Is(StateSizes),
     Stop { number: u32, at: usize },
 }
 
 // The same of a whole axis (crates/sheet_sizes).
-#[derive(Drop)]
+#[derive(Clone, Copy)]
 pub enum AxisRead {
     Is(AxisSizes),
     Stop { number: u32, at: usize },

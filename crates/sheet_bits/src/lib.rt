@@ -1,5 +1,7 @@
 // The pieces of the program's output that are written as they are, into a buffer that is lent: fixed bytes, and bits in hex. Each
 // routine writes at a place and answers the place after what it wrote.
+#![tactic(auto)]
+
 ghost use Rattle.std.specs.Prelude.{◌≡◌, ◌+◌, ◌<◌, ◌≤◌, length};
 ghost use Rattle.std.specs.Float.{binary64};
 ghost use Rattle.std.specs.Float.Ieee.{to_bits};

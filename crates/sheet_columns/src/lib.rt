@@ -1,5 +1,7 @@
 // The numbers that were read of a job sheet, as a build takes them: lists become columns of floats. What is read stands in
 // crates/sheet_record; crates/sheet_table builds.
+#![tactic(auto)]
+
 ghost use Rattle.std.specs.Prelude.{◌≡◌, ◌++◌, ◌+◌, ◌*◌, ◌≤◌, length, drop};
 ghost use Rattle.law_lists.specs.Lists.{listed};
 ghost use Rattle.sheet_columns.specs.Columns.{InReach, number_at, columns_at};

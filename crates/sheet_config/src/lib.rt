@@ -1,4 +1,6 @@
 // What a build is told of a job sheet that was read (crates/sheet_record): the heading becomes a configuration.
+#![tactic(auto)]
+
 ghost use Rattle.std.specs.Prelude.{◌≡◌, ◌+◌, ◌*◌, ◌-◌};
 ghost use Rattle.rules.specs.Build.{table_length};
 ghost use Rattle.rules.specs.SheetAnswers.{order_of};

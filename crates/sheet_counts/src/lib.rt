@@ -1,5 +1,7 @@
 // Counts of a job sheet, and the heading of an `again` form, as the judge of crates/rules/specs/SheetReading.antt reads them at the
 // same place.
+#![tactic(auto)]
+
 ghost use Rattle.std.specs.Prelude.{◌≡◌, ◌≤◌, length, drop};
 ghost use Rattle.rules.specs.SheetReading as reading;
 ghost use Rattle.sheet_decimals.specs.Says.{DecimalSmall};
@@ -10,7 +12,7 @@ use sheet_numbers::positive;
 use sheet_words::{Passed, word};
 
 // A count that was read, and the place after it; or a refusal.
-#[derive(Drop)]
+#[derive(Clone, Copy)]
 pub enum Counted {
     Is { value: usize, next: usize },
     Stop { number: u32, at: usize },

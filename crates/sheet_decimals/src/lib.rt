@@ -1,10 +1,12 @@
 // Digits of a job sheet, read once for their end and their worth together, as the judge of crates/rules/specs/SheetReading.antt
 // reads them at the same place.
+#![tactic(auto)]
+
 ghost use Rattle.std.specs.Prelude.{◌≡◌, true, ◌^◌, ◌≤◌, length};
 ghost use Rattle.sheet_decimals.specs.Says.{digit_from, DigitsSay, DecimalInside, DecimalSmall};
 
 // A run of digits: its worth and the place after it; or the place where it has no first digit; or that of the digit that passes the limit.
-#[derive(Drop)]
+#[derive(Clone, Copy)]
 pub enum Decimal {
     Worth { value: u64, next: usize },
     Missing { at: usize },

@@ -1,4 +1,6 @@
 // The numbers of the program's output, written in decimal into a buffer that is lent, after fixed bytes (crates/sheet_bits).
+#![tactic(auto)]
+
 ghost use Rattle.std.specs.Prelude.{◌≡◌, ◌++◌, ◌+◌, ◌<◌, ◌≤◌, length};
 ghost use Rattle.rules.specs.Sheets.{natural};
 ghost use Rattle.sheet_bits.specs.Written.{Wrote};

@@ -1,4 +1,6 @@
 // The first two lines of a job sheet: order and range.
+#![tactic(auto)]
+
 ghost use Rattle.std.specs.Prelude.{◌≤◌, length};
 ghost use Rattle.rules.specs.Sheets.{bytes, within, below4};
 ghost use Rattle.rules.specs.SheetReading.{read_upper};
@@ -8,7 +10,7 @@ use sheet_numbers::Whole;
 use sheet_words::Passed;
 
 // Order and range as they stand, and the place after both lines; or a refusal.
-#[derive(Drop)]
+#[derive(Clone, Copy)]
 pub enum HeadingRead {
     Is {
         order: i64,

@@ -1,6 +1,8 @@
 // Items and lists of a job sheet. An item is a number or an `again` form, and a form holds a list: so the item routine and the list
 // routine call each other, and the bytes that remain fall. The list routine loops over its items, so the calls are as deep as forms
 // stand inside one another, which is four at the most. The numbers go into a buffer, as many as it holds.
+#![tactic(auto)]
+
 ghost use Rattle.std.specs.Prelude.{◌≡◌, ◌+◌, ◌≤◌, cond, length, ltb};
 ghost use Rattle.sheet_items.specs.Says.{
   Opened,
@@ -17,7 +19,7 @@ use sheet_counts::Counted;
 use sheet_numbers::Whole;
 
 // How an item begins: with a number, with the heading of a form of so many times whose list starts at `start`, or with a fault.
-#[derive(Drop)]
+#[derive(Clone, Copy)]
 pub enum Opening {
     Number,
     Again { times: usize, start: usize },
@@ -25,14 +27,14 @@ pub enum Opening {
 }
 
 // Where an item's numbers end in the buffer, and the place after it; or a refusal's number and place.
-#[derive(Drop)]
+#[derive(Clone, Copy)]
 pub enum Filled {
     To { end: usize, next: usize },
     Stop { number: u32, at: usize },
 }
 
 // The same of a list, with the place of the item in which the buffer was filled up, if it was.
-#[derive(Drop)]
+#[derive(Clone, Copy)]
 pub enum Listed {
     To {
         end: usize,
@@ -46,7 +48,7 @@ pub enum Listed {
 }
 
 // What follows an item: another item at a place, the end of the list, or a fault.
-#[derive(Drop)]
+#[derive(Clone, Copy)]
 pub enum Follows {
     Item { end: usize, place: usize },
     Close { end: usize, next: usize },

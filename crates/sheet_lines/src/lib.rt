@@ -1,6 +1,8 @@
 // The lines of the program's output, each written byte for byte into a buffer that is lent: those of
 // crates/rules/specs/SheetAnswers.antt. Each routine writes at a place, or at 0, and answers the place after what it
 // wrote. That a buffer of 302,240 bytes is long enough for every output is shown in proofs/Fits.antt.
+#![tactic(auto)]
+
 ghost use Rattle.std.specs.Prelude.{◌≡◌, ◌++◌, ◌+◌, ◌≤◌, length, drop};
 ghost use Rattle.rules.specs.SheetAnswers.{seg_line, refused_output};
 ghost use Rattle.sheet_bits.specs.Written.{Wrote};

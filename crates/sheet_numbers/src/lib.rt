@@ -1,4 +1,6 @@
 // Numbers of a job sheet, as the judge of crates/rules/specs/SheetReading.antt reads them at the same place.
+#![tactic(auto)]
+
 ghost use Rattle.std.specs.Prelude.{◌≡◌, ◌+◌, ◌^◌, ◌≤◌, length, drop};
 ghost use Rattle.rules.specs.Sheets.{within};
 ghost use Rattle.rules.specs.SheetReading as reading;
@@ -8,7 +10,7 @@ ghost use Rattle.sheet_numbers.specs.Says.{whole_of, PositiveSays, plain_of, neg
 use sheet_decimals::{Decimal, digit_from, digits, wide};
 
 // A whole number that was read, and the place after it; or a refusal.
-#[derive(Drop)]
+#[derive(Clone, Copy)]
 pub enum Whole {
     Is { value: i64, next: usize },
     Stop { number: u32, at: usize },

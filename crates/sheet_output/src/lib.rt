@@ -1,5 +1,7 @@
 // The program's output for a table, written byte for byte into a buffer that is lent: that of crates/rules/specs/SheetAnswers.antt.
 // Its lines are written by crates/sheet_lines.
+#![tactic(auto)]
+
 ghost use Rattle.std.specs.Prelude.{◌≡◌, ◌++◌, ◌+◌, ◌*◌, ◌≤◌, length, drop};
 ghost use Rattle.rules.specs.SheetAnswers.{table_output, most_bytes};
 ghost use Rattle.sheet_bits.specs.Written.{Wrote};

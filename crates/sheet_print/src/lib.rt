@@ -1,4 +1,6 @@
 // The program's whole output for a job sheet. It takes any text and buffers of any length.
+#![tactic(auto)]
+
 ghost use Rattle.std.specs.Prelude.{◌≡◌, ◌++◌, ◌≤◌, length, drop};
 ghost use Rattle.rules.specs.SheetAnswers.{most_bytes, sheet_printed, printed_cells, printed_bytes};
 ghost use Rattle.sheet_print.specs.Printing.{Printable, output_of};

@@ -1,5 +1,7 @@
 // Numbers of a list, written into a buffer one after the other, as many as it holds. A buffer that is one longer than it need be
 // tells by being full that there were too many.
+#![tactic(auto)]
+
 ghost use Rattle.std.specs.Prelude.{◌≡◌, ◌+◌, ◌-◌, ◌*◌, ◌≤◌, min, ◌∷◌, [], length};
 ghost use Rattle.rules.specs.SheetAnswers.{times};
 ghost use Rattle.sheet_puts.specs.Put.{put, block};

@@ -1,5 +1,7 @@
 // The questions before a build, asked of what was read of a job sheet. What is read stands in crates/sheet_record, and
 // crates/sheet_columns makes of it what a build takes.
+#![tactic(auto)]
+
 ghost use Rattle.std.specs.Prelude.{◌≡◌};
 ghost use Rattle.rules.specs.Build.{build_number};
 ghost use Rattle.rules.specs.Sheets.{Sheet};

@@ -1,5 +1,7 @@
 // A whole job sheet: order and range, then the axes to the end of the text, in one pass. What is read goes into buffers that the
 // caller lends.
+#![tactic(auto)]
+
 ghost use Rattle.std.specs.Prelude.{◌≡◌, length};
 ghost use Rattle.rules.specs.SheetFaults.{judge};
 ghost use Rattle.sheet_reader.specs.Says.{WholeSays, answer_of, cut_of, SheetSays};
@@ -9,14 +11,14 @@ use sheet_heading::{HeadingRead, heading};
 use sheet_record::SheetNumbers;
 
 // A sheet that only the build's questions could still refuse, or a refusal.
-#[derive(Drop)]
+#[derive(Clone, Copy)]
 pub enum SheetRead {
     Is(SheetNumbers),
     Refused { number: u32, at: usize },
 }
 
 // The same of a text that is judged whole: refused for a size, or stopped at a byte or a limit.
-#[derive(Drop)]
+#[derive(Clone, Copy)]
 pub enum WholeRead {
     Is(SheetNumbers),
     Sized { number: u32, at: usize },

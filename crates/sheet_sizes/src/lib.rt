@@ -1,5 +1,7 @@
 // What is counted on the axes of a job sheet, and which refusal for a size comes first: 2 or 3. A byte that cannot be comes before
 // them wherever it stands, so they are noted here, and told when the whole text was read.
+#![tactic(auto)]
+
 ghost use Rattle.std.specs.Prelude.{◌≡◌, cond, eqb};
 ghost use Rattle.sheet_sizes.specs.Sizes.{place_of, fault_of, together_of, with_axis};
 
@@ -7,7 +9,7 @@ use rules::SheetPlace;
 
 // What was counted on an axis: how many numbers each list has, as far as a buffer holds them, where each was filled up, the bracket
 // that closes its points, and the place after the axis.
-#[derive(Drop)]
+#[derive(Clone, Copy)]
 pub struct AxisSizes {
     pub points: usize,
     pub points_over: usize,
@@ -21,7 +23,7 @@ pub struct AxisSizes {
 
 // What was counted on the axes so far: axis one's points, how many numbers each start list and each end list has (0 where they
 // differ), and the first refusal for a size, or the number 0.
-#[derive(Drop)]
+#[derive(Clone, Copy)]
 pub struct AxesSizes {
     pub points: usize,
     pub start: usize,

@@ -1,5 +1,7 @@
 // From the numbers that were read of a job sheet to the library's own build. What is read stands in crates/sheet_record, and
 // crates/sheet_columns makes of it what a build takes. No line of the build stands here: crates/build builds.
+#![tactic(auto)]
+
 ghost use Rattle.std.specs.Prelude.{◌≡◌, ◌++◌, min, length, take, drop};
 ghost use Rattle.rules.specs.Build.{build_answer, buffer_after};
 ghost use Rattle.rules.specs.Sheets.{Sheet};

@@ -1,10 +1,12 @@
 // The fixed bytes of a job sheet. What is passed is what the judge of crates/rules/specs/SheetReading.antt reads at the same place.
+#![tactic(auto)]
+
 ghost use Rattle.std.specs.Prelude.{◌≡◌, ◌≤◌, length, drop};
 ghost use Rattle.rules.specs.SheetReading as reading;
 ghost use Rattle.sheet_words.specs.Says.{passed_of, PassedInside};
 
 // What was passed: the place after it; or a refusal's number and place.
-#[derive(Drop)]
+#[derive(Clone, Copy)]
 pub enum Passed {
     To { next: usize },
     Stop { number: u32, at: usize },

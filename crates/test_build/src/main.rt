@@ -1,6 +1,8 @@
 // Makes the builds that standard input has, and compares each answer with the one that stands behind its call:
 // number, record, and every cell of the buffer and of those beside it. The first lines of the input say how a call is
 // written. Prints the names of calls that were answered otherwise, and how many calls and numbers there were.
+#![tactic(auto)]
+
 use rules::{BuildAnswer, SplineConfig};
 use test_common::seen;
 use test_common::seen::Seen;

@@ -5,7 +5,7 @@ use test_input::{bits, read};
 
 // The calls there were, the numbers that were compared, and those that were not as expected. (Sums that wrap: nothing is
 // to be proved of them, and they never get that far.)
-#[derive(Drop)]
+#[derive(Clone, Copy)]
 pub struct Seen {
     pub calls: u64,
     pub numbers: u64,

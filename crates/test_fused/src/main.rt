@@ -1,6 +1,8 @@
 // Makes the fused multiply-adds that standard input has, and compares each result, bit for bit, with the one that stands
 // beside its operands. The first lines of the input say how they are written. Prints the names of families in
 // which a result is otherwise, and how many there were.
+#![tactic(auto)]
+
 use test_common::seen;
 use test_common::seen::Seen;
 use test_input::read;

@@ -1,5 +1,7 @@
 // What the programs have in common that try the build and the preview: what a call is given, read from standard input, and its number
 // and record beside those that stand behind it. The first lines of crates/test_build/stdin say how a call is written.
+#![tactic(auto)]
+
 ghost use Rattle.std.specs.Prelude.{◌≤◌};
 
 use rules::{BoundaryState, BuildAnswer, OutOfRangeMode, PathParam, SplineConfig};
@@ -35,7 +37,7 @@ pub fn next_config() -> SplineConfig {
 
 // Where waypoints, start and end lie in one list, one behind the other: the start's numbers begin at `start`, the end's at `end`, and
 // behind `past` is nothing.
-#[derive(Drop)]
+#[derive(Clone, Copy)]
 pub struct Lists {
     pub start: usize,
     pub end: usize,

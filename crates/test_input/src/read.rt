@@ -18,7 +18,7 @@ pub fn least(a: usize, b: usize) -> usize
 }
 
 // A call's name, and how many characters there were: fewer than 68 at the end of the input.
-#[derive(Drop)]
+#[derive(Clone, Copy)]
 pub struct Name {
     pub text: [u8; 68],
     pub length: usize,
@@ -37,7 +37,7 @@ pub fn next_name() -> Name {
 }
 
 // A number as it is read.
-#[derive(Drop)]
+#[derive(Clone, Copy)]
 struct Number {
     magnitude: u64,
     is_negative: bool,

@@ -1,6 +1,8 @@
 // Makes the master checks that standard input has, and compares each answer with the one that stands behind its call:
 // 0 for no, 1 for yes, else the refusal's number. The first lines of the input say how a call is written. Prints
 // the names of sets of which a check was answered otherwise, and how many checks there were.
+#![tactic(auto)]
+
 use rules::MasterAnswer;
 use test_common::seen;
 use test_common::seen::Seen;
@@ -8,7 +10,7 @@ use test_input::read;
 use test_input::read::Name;
 
 // How many waypoints there are, how many numbers of the start, of the end and of the table, and of all four.
-#[derive(Drop)]
+#[derive(Clone, Copy)]
 struct Lengths {
     waypoints: usize,
     start: usize,

@@ -1,6 +1,8 @@
 // Reads the numbers that standard input has in pieces, and compares what is kept and what is said after each piece with what stands
 // behind it. The first lines of the input say how a trial is written. Prints the names of trials that came out otherwise, and how
 // many calls there were.
+#![tactic(auto)]
+
 use libc::STDIN_FILENO;
 use rules::{NumberAnswer, NumberReading};
 use test_common::seen;
@@ -9,7 +11,7 @@ use test_input::read;
 use test_input::read::Name;
 
 // What was seen, and the record that is kept.
-#[derive(Drop)]
+#[derive(Clone, Copy)]
 struct Reading {
     seen: Seen,
     kept: NumberReading,

@@ -1,6 +1,8 @@
 // Makes the queries that standard input has, and compares each answer with the one that stands behind its call: number,
 // and every cell of the four buffers and of those beside them. The first lines of the input say how a call is
 // written. Prints the names of paths of which a query was answered otherwise, and how many queries and numbers there were.
+#![tactic(auto)]
+
 ghost use Rattle.std.specs.Prelude.{◌≡◌, length};
 
 mod table;
@@ -25,7 +27,7 @@ fn next_path() -> PathRecord {
 
 // What a query is asked, by which entry point, 0 eval_at and 1 eval_path, how many cells each buffer has, and what is to
 // come out: the number, and how many cells of each buffer are written.
-#[derive(Drop)]
+#[derive(Clone, Copy)]
 struct Query {
     s: PathParam,
     entry: usize,

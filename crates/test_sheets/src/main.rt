@@ -1,6 +1,8 @@
 // Has the job sheets that standard input has printed, read and built, and compares each answer with the one that stands behind its
 // sheet: all bytes that are printed, number and place, and every cell of the buffer. The first lines of the input say how a trial
 // is written. Prints the names of sheets that were answered otherwise, and how many calls there were.
+#![tactic(auto)]
+
 use libc::STDIN_FILENO;
 use rules::{SheetAnswer, SheetPrinted};
 use test_common::seen;

@@ -1,4 +1,6 @@
 // The library's answers, as a caller from C gets them.
+#![tactic(auto)]
+
 ghost use Rattle.std.specs.Prelude.{◌≡◌};
 ghost use Rattle.rules.specs.Master.{master_says};
 ghost use Rattle.tezvorup_records.specs.Meaning.{mode_number, record_of, answer_of, check_of, place_of, sheet_answer_of};

@@ -1,5 +1,7 @@
 // What C and Rust call to build a curve. It is thin and takes any operands; what its records stand for is in
 // crates/tezvorup_records.
+#![tactic(auto)]
+
 ghost use Rattle.std.specs.Prelude.{◌≡◌, length};
 ghost use Rattle.rules.specs.Build.{input_of, build_answer, buffer_after};
 ghost use Rattle.tezvorup_records.specs.Meaning.{config_of, answer_of};

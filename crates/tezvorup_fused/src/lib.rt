@@ -1,4 +1,6 @@
 // What C and Rust call to multiply and add with one rounding. Its promise is for all operands.
+#![tactic(auto)]
+
 ghost use Rattle.std.specs.Prelude.{◌≡◌};
 ghost use Rattle.std.specs.Float.{binary64};
 ghost use Rattle.rules.specs.Fused.{fused};

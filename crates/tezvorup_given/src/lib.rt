@@ -1,4 +1,6 @@
 // What a caller from C hands over, as the library takes it.
+#![tactic(auto)]
+
 ghost use Rattle.std.specs.Prelude.{◌≡◌};
 ghost use Rattle.tezvorup_records.specs.Meaning.{state_of, mode_of, config_of, path_of};
 

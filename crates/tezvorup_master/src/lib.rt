@@ -1,5 +1,7 @@
 // What C and Rust call to check a master. It is thin and takes any operands; what its record stands for is in
 // crates/tezvorup_records.
+#![tactic(auto)]
+
 ghost use Rattle.std.specs.Prelude.{◌≡◌};
 ghost use Rattle.rules.specs.Master.{set_of, check_master};
 ghost use Rattle.tezvorup_records.specs.Meaning.{check_of};

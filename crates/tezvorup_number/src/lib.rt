@@ -1,5 +1,7 @@
 // What C and Rust call to read a number on a job sheet whose bytes come in pieces: the routines of crates/number. Both records cross the
 // boundary as they are; `spline_number` is rules::NumberReading, and `spline_whole` is rules::NumberAnswer.
+#![tactic(auto)]
+
 ghost use Rattle.std.specs.Prelude.{◌≡◌};
 ghost use Rattle.rules.specs.SheetNumbers.{begun, go_on, finished};
 

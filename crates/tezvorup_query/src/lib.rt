@@ -1,5 +1,7 @@
 // What C and Rust call to read position and derivatives off a curve. It is thin and takes any operands; what its record stands
 // for is in crates/tezvorup_records.
+#![tactic(auto)]
+
 ghost use Rattle.rules.specs.Query.{buffers, Queried, query_of};
 ghost use Rattle.tezvorup_records.specs.Meaning.{path_of};
 

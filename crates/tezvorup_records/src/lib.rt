@@ -1,9 +1,10 @@
 // The records that cross the boundary to C, field for field as include/tezvorup.h has them. What they stand for, with the numbers
 // that each export can answer, is in specs/; crates/tezvorup_given and crates/tezvorup_answers have the code.
+#![tactic(auto)]
 
 // `spline_state`: a boundary state by its kind; its numbers are a list beside it.
 #[repr(C)]
-#[derive(Drop)]
+#[derive(Clone, Copy)]
 pub struct RawState {
     pub kind: u8,
     pub rows: usize,
@@ -12,7 +13,7 @@ pub struct RawState {
 
 // `spline_config`.
 #[repr(C)]
-#[derive(Drop)]
+#[derive(Clone, Copy)]
 pub struct RawConfig {
     pub order: usize,
     pub s_min: f64,
@@ -24,7 +25,7 @@ pub struct RawConfig {
 
 // `spline_path`: a path's record.
 #[repr(C)]
-#[derive(Drop)]
+#[derive(Clone, Copy)]
 pub struct RawPath {
     pub order: usize,
     pub segments: usize,
@@ -37,7 +38,7 @@ pub struct RawPath {
 
 // `spline_answer`: what a build answers.
 #[repr(C)]
-#[derive(Drop)]
+#[derive(Clone, Copy)]
 pub struct RawAnswer {
     pub number: u32,
     pub path: RawPath,
@@ -45,7 +46,7 @@ pub struct RawAnswer {
 
 // `spline_check`: what a master check answers. A number of 0 alone is no yes.
 #[repr(C)]
-#[derive(Drop)]
+#[derive(Clone, Copy)]
 pub struct RawCheck {
     pub number: u32,
     pub good: u8,
@@ -53,7 +54,7 @@ pub struct RawCheck {
 
 // `spline_place`: what reading a job sheet answers.
 #[repr(C)]
-#[derive(Drop)]
+#[derive(Clone, Copy)]
 pub struct RawPlace {
     pub number: u32,
     pub at: usize,
@@ -61,7 +62,7 @@ pub struct RawPlace {
 
 // `spline_sheet`: what building the curve of a job sheet answers.
 #[repr(C)]
-#[derive(Drop)]
+#[derive(Clone, Copy)]
 pub struct RawSheet {
     pub number: u32,
     pub at: usize,

@@ -1,5 +1,7 @@
 // What C and Rust call to read a job sheet, and to build from one. Both are thin and take any text; what their records stand for
 // is in crates/tezvorup_records.
+#![tactic(auto)]
+
 ghost use Rattle.std.specs.Prelude.{◌≡◌, length};
 ghost use Rattle.rules.specs.SheetAnswers.{sheet_place, sheet_answer, sheet_buffer};
 ghost use Rattle.tezvorup_records.specs.Meaning.{place_of, sheet_answer_of};
