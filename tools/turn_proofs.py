@@ -35,6 +35,9 @@ def pairs(it):
             steps.setdefault(dashed(step[0]), step[1])
     for names, _ in it["loops"]:
         loops.setdefault(dashed(names[0]), names[1])
+    for d in (needs, places, loops):
+        for new in list(d.values()):
+            d.setdefault(dashed(new), new)
     return needs, places, steps, loops
 
 
@@ -64,6 +67,11 @@ def turned(text, it):
 
     def field(m):
         word = dashed(m.group(1))
+        before = re.search(W + "$", line[:m.start()])
+        if before and before.group(0) in ("args", "requires", "ranges", "old", "new", "now", "ensures", "fn", "initial", "is", "given"):
+            return m.group(0)
+        if word in ("well-formed", "type-inv"):
+            return "." + word.replace("-", "_")
         return "." + steps[word] if word in steps else m.group(0)
 
     lines = []

@@ -4,7 +4,7 @@ use mathlib.Core.Bool.{Bool, true, false, not, ◌&&◌}
 use mathlib.Core.List.{List}
 use Prim.Native.Nat.{ℕ}
 use lib.IntN.{ℤ}
-use borrow.Author.Tests.{not-true, not_false}
+use borrow.Author.Tests.{not-true, not-false}
 use Rattle.rules.specs.declared.MasterAnswer.TheVariants.{Refused}
 use Rattle.law_lists.specs.Lists.{all}
 use Rattle.rules.specs.Master.{MasterSays, within, master_says}
@@ -33,7 +33,7 @@ module _ (before : Bool) (m : ℕ) (w end table : List ℤ) (i : ℕ) where
     was_out r = not-true (all within (segment_part m table i)) (sym fit_is ∙ r)
 
     pub was_within : says.refused ≡ false → all within (segment_part m table i) ≡ true
-    was_within r = not_false (all within (segment_part m table i)) (sym fit_is ∙ r)
+    was_within r = not-false (all within (segment_part m table i)) (sym fit_is ∙ r)
 
     pub was_good : says.refused ≡ false → says.good ≡ (before && segment_meets m w end table i)
     was_good r = ap (λ (x : MasterSays). x.good) (e ∙ segment_answers (was_within r) refl)

@@ -9,7 +9,7 @@ use lib.IntN.{ℤ, pos, nat_abs}
 use lib.ListN.{length, get_or, length-append, get_or-append}
 use lib.Seq.{get_or-append-add}
 use lib.Dec.{ltb}
-use borrow.Author.Tests.{leb_true, ltb-true, ltb-false}
+use borrow.Author.Tests.{leb-true, ltb-true, ltb-false}
 use Rattle.rules.specs.Sheets.{Item, Items, whole, again, one, more, ValidItem, ValidItems, within, below4}
 use Rattle.rules.specs.SheetFaults.{size_of, size}
 use Rattle.rules.specs.SheetAnswers.{numbers, numbers_of, times}
@@ -45,7 +45,7 @@ mutual
   unfolding ValidItem numbers_of
 
   item_near : (i : Item) (d : ℕ) → ValidItem within below4 i d → AllNear (numbers_of i)
-  item_near (whole z) d v = near_one z (leb_true (nat_abs z) (2 ^ 40) v)
+  item_near (whole z) d v = near_one z (leb-true (nat_abs z) (2 ^ 40) v)
   item_near (again n items) d v = near_times n (numbers items) (list_near items (suc d) v.2)
 
   pub list_near : (items : Items) (d : ℕ) → ValidItems within below4 items d → AllNear (numbers items)

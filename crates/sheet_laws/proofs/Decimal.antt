@@ -6,7 +6,7 @@ use mathlib.Core.List.{List, [], ◌∷◌, ◌++◌, append_assoc}
 use Prim.Native.Nat.{ℕ, zero, suc, ◌+◌, ◌-◌, ◌*◌, ◌/◌, ◌%◌, ◌<◌, ◌≤◌}
 use native.Mathlib.Omega.{arith}
 use lib.Dec.{leb, ltb}
-use borrow.Author.Tests.{ltb-true, ltb-false, leb_true, lt-ltb, le-ltb, le-leb}
+use borrow.Author.Tests.{ltb-true, ltb-false, leb-true, lt-ltb, le-ltb, le-leb}
 use Rattle.rules.specs.Sheets.{decimal, natural}
 use Rattle.rules.specs.SheetReading.{Read, got, is_digit, is_first, digits, positive}
 
@@ -45,7 +45,7 @@ pub digit_bounds : (b : ℕ) → is_digit b ≡ true → (48 ≤ b) × (b ≤ 57
 digit_bounds b e = go (leb 48 b) refl (leb b 57) refl e
   where
     go : (x : Bool) → leb 48 b ≡ x → (y : Bool) → leb b 57 ≡ y → x && y ≡ true → (48 ≤ b) × (b ≤ 57)
-    go true p true q e = (leb_true 48 b p, leb_true b 57 q)
+    go true p true q e = (leb-true 48 b p, leb-true b 57 q)
     go true p false q e = let z : ◌≡◌ {A = ℕ} 0 1 = cc in absurd (omega arith)
     go false p true q e = let z : ◌≡◌ {A = ℕ} 0 1 = cc in absurd (omega arith)
     go false p false q e = let z : ◌≡◌ {A = ℕ} 0 1 = cc in absurd (omega arith)
@@ -54,7 +54,7 @@ pub first_bounds : (b : ℕ) → is_first b ≡ true → (49 ≤ b) × (b ≤ 57
 first_bounds b e = go (leb 49 b) refl (leb b 57) refl e
   where
     go : (x : Bool) → leb 49 b ≡ x → (y : Bool) → leb b 57 ≡ y → x && y ≡ true → (49 ≤ b) × (b ≤ 57)
-    go true p true q e = (leb_true 49 b p, leb_true b 57 q)
+    go true p true q e = (leb-true 49 b p, leb-true b 57 q)
     go true p false q e = let z : ◌≡◌ {A = ℕ} 0 1 = cc in absurd (omega arith)
     go false p true q e = let z : ◌≡◌ {A = ℕ} 0 1 = cc in absurd (omega arith)
     go false p false q e = let z : ◌≡◌ {A = ℕ} 0 1 = cc in absurd (omega arith)

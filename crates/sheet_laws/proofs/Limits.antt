@@ -5,7 +5,7 @@ use mathlib.Core.List.{List, ◌++◌}
 use Prim.Native.Nat.{ℕ, suc, ◌+◌, ◌*◌, ◌^◌, ◌<◌}
 use native.Mathlib.Omega.{arith}
 use lib.ListN.{length}
-use borrow.Author.Tests.{leb_true, le-leb}
+use borrow.Author.Tests.{leb-true, le-leb}
 use Rattle.rules.specs.Sheets.{Item, Items, spell_item, spell_items, ValidItem, ValidItems, within, below4}
 use Rattle.rules.specs.SheetReading.{Read, got, item}
 use Rattle.sheet_laws.proofs.Exact.{Out, reads, faults, other, Any}
@@ -17,7 +17,7 @@ pub within_small : (d : ℕ) → d < 10 → within d ≡ true
 within_small d h = le-leb d (2 ^ 40) (omega arith)
 
 pub within_shorter : (n d : ℕ) → within (n * 10 + d) ≡ true → within n ≡ true
-within_shorter n d e = le-leb n (2 ^ 40) (let h = leb_true (n * 10 + d) (2 ^ 40) e in omega arith)
+within_shorter n d e = le-leb n (2 ^ 40) (let h = leb-true (n * 10 + d) (2 ^ 40) e in omega arith)
 
 -- an exact reading that reads a value reads its spelling
 pub spelled : {A : Type 0} (sp : A → List ℕ) (Ok : A → Type 0) (P : ℕ → List ℕ → Read A) (F : A → List ℕ → Type 0) (t : List ℕ) (x : Read A)

@@ -8,7 +8,7 @@ use native.Mathlib.Omega.{arith}
 use lib.IntN.{ℤ, pos, negsuc, neg_ℤ, nat_abs}
 use lib.ListN.{length}
 use lib.Dec.{eqb}
-use borrow.Author.Tests.{leb_true, le-leb, eqb-true, eqb-false, eq-eqb, ne_eqb}
+use borrow.Author.Tests.{leb-true, le-leb, eqb-true, eqb-false, eq-eqb, ne_eqb}
 use Rattle.rules.specs.Sheets.{natural, decimal, signed, bytes}
 use Rattle.rules.specs.SheetReading.{Read, got, stop, then, word, is_digit, is_first, digits, positive, number, count, up_to64, head}
 use Rattle.sheet_laws.proofs.Decimal.{
@@ -134,7 +134,7 @@ abbrev pub Stopped : ℕ → List ℕ → Type 0
 Stopped n z = Stops z
 
 small_shorter : (n d : ℕ) → up_to64 (n * 10 + d) ≡ true → up_to64 n ≡ true
-small_shorter n d e = le-leb n 64 (let h = leb_true (n * 10 + d) 64 e in omega arith)
+small_shorter n d e = le-leb n 64 (let h = leb-true (n * 10 + d) 64 e in omega arith)
 
 pub count_complete : Complete natural Count count_n Stopped
 unfolding Complete
@@ -153,12 +153,12 @@ count_out t = go (positive_out up_to64 (λ r. stop 600 r) (λ d h. le-leb d 64 (
       begins = refl;
       stops = λ c r h m y l. positive_none up_to64 (λ r. stop 600 r) c y (f c r h);
     })
-    go (some (ended v z e s h k w)) = reads v z e s (h, leb_true v 64 k) w
+    go (some (ended v z e s h k w)) = reads v z e s (h, leb-true v 64 k) w
     go (some (passed v b z e s h k d big)) = faults (b ∷ z) e (record {
       before = natural v;
       split = s;
       some = v;
-      valid = (h, leb_true v 64 k);
+      valid = (h, leb-true v 64 k);
       tail = [];
       begins = sym (append-nil (natural v));
       stops = λ c r i m y l. let j : b ≡ c = cc in

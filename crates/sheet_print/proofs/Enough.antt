@@ -6,7 +6,7 @@ use Prim.Native.Nat.{ℕ, ◌+◌, ◌-◌, ◌≤◌, min}
 use native.Mathlib.Nat.{mul-le-mul}
 use native.Mathlib.Omega.{arith}
 use lib.Dec.{T, leb}
-use borrow.Author.Tests.{leb_true}
+use borrow.Author.Tests.{leb-true}
 use Rattle.rules.specs.Questions.{Question, ask, first_no}
 use Rattle.rules.specs.Build.{BuildInput, valid_order, valid_axes, build_questions, build_number, build_answer}
 use Rattle.rules.specs.SheetFaults.{Judged, readable, refused, judge}
@@ -37,8 +37,8 @@ module _ (b : BuildInput) (x : valid_order b.config.order ≡ true) (u : leb b.p
   unfolding cells_of valid_axes
   few_cells =
       let o : b.config.order + 1 ≤ 8 = by_order (λ n. n + 1 ≤ 8) (omega arith) (omega arith) (omega arith) b.config.order (truth _ x) in
-      let p : b.points - 1 ≤ 256 = omega (arith, leb_true b.points 257 u) in
-      let a : b.axes ≤ 8 = leb_true b.axes 8 (both (leb 1 b.axes) (leb b.axes 8) v) in
+      let p : b.points - 1 ≤ 256 = omega (arith, leb-true b.points 257 u) in
+      let a : b.axes ≤ 8 = leb-true b.axes 8 (both (leb 1 b.axes) (leb b.axes 8) v) in
       omega (arith, mul-le-mul (mul-le-mul a p) o)
 
 module _ (cells : ℕ) (h : most_cells ≤ cells) (b : BuildInput) where

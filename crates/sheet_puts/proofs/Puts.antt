@@ -27,7 +27,7 @@ use lib.Seq.{
   get_or-take,
   drop-drop,
 }
-use borrow.Author.Tests.{leb_true, leb-false}
+use borrow.Author.Tests.{leb-true, leb-false}
 use Rattle.rules.specs.SheetAnswers.{times}
 use Rattle.sheet_puts.specs.Put.{put, block}
 
@@ -63,7 +63,7 @@ put_is out at xs h = go (leb (at + length xs) (length out)) refl
         → take (length out) (take at out ++ xs) ++ drop (at + length xs) out
         ≡ (take at out ++ take (min (length out) (at + length xs) - at) xs) ++ drop (min (length out) (at + length xs)) out
     go true e =
-        let k = leb_true (at + length xs) (length out) e in
+        let k = leb-true (at + length xs) (length out) e in
         let m : min (length out) (at + length xs) ≡ at + length xs = omega arith in
         rw (m, take_all (length out) (take at out ++ xs) (omega (arith, L, length-append (take at out) xs)), take_all (at + length xs - at) xs (omega arith))
     go false e =
@@ -145,7 +145,7 @@ module _ (out : List ℤ) (at end n : ℕ) (h : at ≤ end) (k : end ≤ length 
         positive_size = go (leb end at) refl
           where
             go : (x : Bool) → leb end at ≡ x → at < end
-            go true e = let w = leb_true end at e in let z : end - at ≡ 0 = omega arith in let y : n * (end - at) ≡ 0 = rw z (omega arith) in
+            go true e = let w = leb-true end at e in let z : end - at ≡ 0 = omega arith in let y : n * (end - at) ≡ 0 = rw z (omega arith) in
                 absurd (omega arith)
             go false e = leb-false end at e
 
@@ -217,7 +217,7 @@ module _ (out : List ℤ) (at : ℕ) (xs : List ℤ) (h : at ≤ length out) whe
       go : (b : Bool) → leb (at + length xs) (length out) ≡ b
           → take (end_of out at xs - at) xs ++ take (end_of out at (xs ++ ys) - end_of out at xs) ys ≡ take (end_of out at (xs ++ ys) - at) (xs ++ ys)
       go true e =
-          let k = leb_true (at + length xs) (length out) e in
+          let k = leb-true (at + length xs) (length out) e in
           let i : end_of out at (xs ++ ys) - at ≡ length xs + (end_of out at (xs ++ ys) - end_of out at xs) = omega (arith, length-append xs ys) in
           rw (take_all (end_of out at xs - at) xs (omega arith), i) (sym (take-append-add xs ys (end_of out at (xs ++ ys) - end_of out at xs)))
       go false e =
@@ -257,7 +257,7 @@ module _ (out : List ℤ) (at : ℕ) (xs : List ℤ) (h : at ≤ length out) (n 
     where
       go : (b : Bool) → leb (at + length xs) (length out) ≡ b → min (length out) (at + n * (end_of out at xs - at)) ≡ end_of out at (times n xs)
       go true e =
-          let k = leb_true (at + length xs) (length out) e in
+          let k = leb-true (at + length xs) (length out) e in
           let i : end_of out at xs - at ≡ length xs = omega arith in
           rw (i, length-times)
       go false e =
@@ -272,7 +272,7 @@ module _ (out : List ℤ) (at : ℕ) (xs : List ℤ) (h : at ≤ length out) (n 
       go : (b : Bool) → leb (at + length xs) (length out) ≡ b → take (end_of out at (times n xs) - at) (times n (take (end_of out at xs - at) xs))
           ≡ take (end_of out at (times n xs) - at) (times n xs)
       go true e =
-          let k = leb_true (at + length xs) (length out) e in
+          let k = leb-true (at + length xs) (length out) e in
           rw (take_all (end_of out at xs - at) xs (omega arith))
       go false e =
           let k = leb-false (at + length xs) (length out) e in

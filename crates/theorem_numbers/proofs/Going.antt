@@ -1,6 +1,6 @@
 -- A fresh record that goes on with some bytes says what the judge reads. Assumes nothing.
 use mathlib.Core.Path.{◌≡◌, refl, sym, ap, subst, ◌∙◌}
-use mathlib.Core.Bool.{Bool, true, false, cond, and_false}
+use mathlib.Core.Bool.{Bool, true, false, cond, and-false}
 use mathlib.Core.List.{List, [], ◌∷◌}
 use Prim.Native.Nat.{ℕ, ◌+◌, ◌-◌, ◌*◌, ◌^◌, ◌≤◌, ◌<◌}
 use native.Mathlib.Nat.{mod-eq_of_lt}
@@ -8,7 +8,7 @@ use native.Mathlib.Omega.{arith}
 use lib.IntN.{ℤ, pos, neg_ℤ}
 use lib.Dec.{eqb}
 use lib.ListN.{length}
-use borrow.Author.Tests.{le-leb, lt-leb, leb_true, eqb-true, ne_eqb}
+use borrow.Author.Tests.{le-leb, lt-leb, leb-true, eqb-true, ne_eqb}
 use Rattle.rules.specs.declared.NumberReading.{NumberReading}
 use Rattle.rules.specs.Sheets.{within}
 use Rattle.rules.specs.SheetReading as reading
@@ -77,7 +77,7 @@ module _ (r : NumberReading) where
 
   pub says_nothing : is_read r.stage ≡ false → eqb r.stage too_large ≡ false → finished r ≡ refused_at 600 r.next
   unfolding finished
-  says_nothing e f = rw (e, f, and_false)
+  says_nothing e f = rw (e, f, and-false)
 
   pub says_large : sound r ≡ true → r.stage ≡ too_large → finished r ≡ refused_at 4 r.start
   unfolding finished
@@ -139,7 +139,7 @@ module _ (start minus last : ℕ) (X : List ℕ) (few : minus ≤ 1) (began : la
           let k : onward next ≡ next + 1 = mod-eq_of_lt (omega arith) in
           let sum = n * 10 + (b - 48) in
           let is = taken_digit b t next n h i ∙ with_digit_lem (inside in_digits next n) (b - 48) j ∙ ap (λ place. inside in_digits place sum) k in
-          ap finished (step b t next n h ∙ ap (λ r. go_on r t) is) ∙ on (next + 1) sum (omega arith) (leb_true _ _ j)
+          ap finished (step b t next n h ∙ ap (λ r. go_on r t) is) ∙ on (next + 1) sum (omega arith) (leb-true _ _ j)
           ∙ ap (placed last) (sym (say_more b t next n h i j))
       go on true i false j =
           let is = taken_digit b t next n h i ∙ with_large (inside in_digits next n) (b - 48) j in

@@ -7,7 +7,7 @@ use native.Mathlib.Omega.{arith}
 use lib.IntN.{ℤ, pos}
 use lib.Dec.{eqb}
 use lib.ListN.{length, drop, get_or, length-drop}
-use borrow.Author.Tests.{le-leb, lt-leb, leb_true, leb-false}
+use borrow.Author.Tests.{le-leb, lt-leb, leb-true, leb-false}
 use Rattle.rules.specs.Sheets.{within}
 use Rattle.rules.specs.SheetReading as reading
 use Rattle.rules.specs.SheetNumbers.{read_as, refused_at, run, worth, signed_by, sized_at, number_at}
@@ -34,7 +34,7 @@ module _ (X : List ℕ) where
       go : (n * 10 + (b - 48) ≤ 2 ^ 40 → reading.digits within (λ r. reading.stop 4 X) (n * 10 + (b - 48)) t ≡ run_says (n * 10 + (b - 48)) t)
           → (d : Bool) → reading.is_digit b ≡ d → (f : Bool) → within (n * 10 + (b - 48)) ≡ f
           → reading.digits within (λ r. reading.stop 4 X) n (b ∷ t) ≡ run_says n (b ∷ t)
-      go on true i true j = rw (i, j, reading.digits) (on (leb_true _ _ j))
+      go on true i true j = rw (i, j, reading.digits) (on (leb-true _ _ j))
       go on true i false j =
           let more = grows (run t) (n * 10 + (b - 48)) in
           let big = leb-false (n * 10 + (b - 48)) (2 ^ 40) j in

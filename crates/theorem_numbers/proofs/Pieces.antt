@@ -1,13 +1,13 @@
 -- Wherever the bytes are cut, the answer is that of the whole. Assumes nothing.
 use mathlib.Core.Path.{◌≡◌, refl, sym, ap, ◌∙◌}
 use mathlib.Core.Logic.{inl, inr}
-use mathlib.Core.Bool.{Bool, true, false, cond, ◌&&◌, and_false}
+use mathlib.Core.Bool.{Bool, true, false, cond, ◌&&◌, and-false}
 use mathlib.Core.List.{List, [], ◌∷◌, ◌++◌, flatten}
 use Prim.Native.Nat.{ℕ, ◌+◌, ◌*◌, ◌-◌, ◌^◌, ◌<◌, ◌≤◌}
 use native.Mathlib.Omega.{arith}
 use lib.Dec.{leb, eqb}
 use lib.ListN.{length}
-use borrow.Author.Tests.{eqb-true, leb_true, lt-leb, ne_eqb}
+use borrow.Author.Tests.{eqb-true, leb-true, lt-leb, ne_eqb}
 use Rattle.rules.specs.declared.NumberReading.{NumberReading}
 use Rattle.rules.specs.Sheets.{within}
 use Rattle.rules.specs.SheetReading as reading
@@ -67,7 +67,7 @@ pieces_say_the_whole p pieces h = ap finished (all_again (begun p) pieces) ∙ w
 
 pub unsound_is_over : (r : NumberReading) → sound r ≡ false → is_open r ≡ false
 unfolding is_open
-unsound_is_over r e = rw (e, and_false)
+unsound_is_over r e = rw (e, and-false)
 
 pub over_is_over : OverIsOver
 unfolding OverIsOver
@@ -78,7 +78,7 @@ unfolding ForgedAreOver finished
 forged_are_over r (inl e) = (λ t. stays r t (unsound_is_over r e), rw e)
 forged_are_over r (inr h) = (
   λ t. stays r t (is_over r (omega arith)),
-  says_nothing r (rw (lt-leb r.stage ended (omega arith), and_false)) (ne_eqb r.stage too_large (λ e. omega arith)),
+  says_nothing r (rw (lt-leb r.stage ended (omega arith), and-false)) (ne_eqb r.stage too_large (λ e. omega arith)),
 )
 
 -- ---- what a byte can make of a record
@@ -161,7 +161,7 @@ stays_sound r (b ∷ t) h =
 
 pub sound_size : (r : NumberReading) → sound r ≡ true → r.size ≤ 2 ^ 40
 unfolding sound
-sound_size r h = leb_true r.size (2 ^ 40) (both_true (leb r.minus 1) (within r.size) h).1
+sound_size r h = leb-true r.size (2 ^ 40) (both_true (leb r.minus 1) (within r.size) h).1
 
 pub sizes_stay_within : SizesStayWithin
 unfolding SizesStayWithin sound
@@ -171,7 +171,7 @@ sizes_stay_within = (λ p t. sound_size (go_on (begun p) t) (stays_sound (begun 
 
 open_stage : (r : NumberReading) → is_open r ≡ true → r.stage ≤ in_digits
 unfolding is_open
-open_stage r e = leb_true r.stage in_digits (both_true (leb r.stage in_digits) (sound r) e).0
+open_stage r e = leb-true r.stage in_digits (both_true (leb r.stage in_digits) (sound r) e).0
 
 -- what is open after some bytes was open before them
 open_before : (r : NumberReading) (t : List ℕ) → is_open (go_on r t) ≡ true → is_open r ≡ true

@@ -6,7 +6,7 @@ use Prim.Native.Nat.{ℕ, suc, ◌-◌, ◌<◌, ◌≤◌}
 use native.Mathlib.Omega.{arith}
 use lib.ListN.{length, take}
 use lib.Dec.{leb}
-use borrow.Author.Tests.{leb_true, le-leb}
+use borrow.Author.Tests.{leb-true, le-leb}
 use Rattle.rules.specs.Sheets.{Sheet, spell_sheet, unlimited, within, below4, Free, Limited}
 use Rattle.rules.specs.SheetReading.{Read, got, stop, read_sheet, sheet_of}
 use Rattle.rules.specs.SheetFaults.{Refusal, refusal, readable, refused, sizes, sized, longest, judge}
@@ -77,7 +77,7 @@ judged_are_sheets t s = (λ e. go (leb (length t) longest) refl (sheet_of t) ref
     go : (x : Bool) → leb (length t) longest ≡ x → (y : Read Sheet) → sheet_of t ≡ y → judge t ≡ readable s
         → Limited s × (spell_sheet s ≡ t) × (length t ≤ longest) × (sizes s ≡ [])
     go true i (got a r) j e =
-        let l = leb_true (length t) longest i in
+        let l = leb-true (length t) longest i in
         let w = all_well a (sizes a) (sym (judge_short t a r l j) ∙ e) in
         let p = accepted t r a j in
         subst (λ b. Limited b × (spell_sheet b ≡ t) × (length t ≤ longest) × (sizes b ≡ [])) w.0 (p.0, p.1, l, w.1)

@@ -7,7 +7,7 @@ use native.Mathlib.Omega.{arith}
 use lib.ListN.{length, take, length-append}
 use lib.Seq.{length-take-le, take_all, take-append_seam, take-append-add}
 use lib.Dec.{leb}
-use borrow.Author.Tests.{leb_true, leb-false}
+use borrow.Author.Tests.{leb-true, leb-false}
 use Rattle.rules.specs.Sheets.{Sheet, spell_sheet, unlimited, within, below4, Free, Limited, Viable}
 use Rattle.rules.specs.SheetReading.{Read, got, stop, read_sheet, sheet_of}
 use Rattle.rules.specs.SheetFaults.{Refusal, refusal, Dead, refused, sizes, sized, longest, judge}
@@ -131,13 +131,13 @@ faults_place t place e = go (leb (length t) longest) refl (sheet_of t) refl (she
   where
     go : (x : Bool) → leb (length t) longest ≡ x → (y : Read Sheet) → sheet_of t ≡ y → (z : Read Sheet) → sheet_of (take longest t) ≡ z
         → judge t ≡ refused 600 place → Dead (take longest t) place × (length t ≤ longest → (s : Sheet) → Free s → spell_sheet s ≡ t → ⊥)
-    go true i (got a r) j z k e = absurd (sized_600 a (sizes a) 0 _ place (sizes_rising a) (sym (judge_short t a r (leb_true (length t) longest i) j) ∙ e))
+    go true i (got a r) j z k e = absurd (sized_600 a (sizes a) 0 _ place (sizes_rising a) (sym (judge_short t a r (leb-true (length t) longest i) j) ∙ e))
     go true i (stop n r) j z k e =
         let f : refused n (length t - length r) ≡ refused 600 place = rw (i, j, judge) at e in
         let m : n ≡ 600 = cc in
         let p : length t - length r ≡ place = cc in
         let g = free_stops t r (j ∙ ap (λ m. stop m r) m) in (
-          subst (λ x. Dead x place) (sym (take_all longest t (leb_true (length t) longest i))) (subst (Dead t) p (free_dead t r g)),
+          subst (λ x. Dead x place) (sym (take_all longest t (leb-true (length t) longest i))) (subst (Dead t) p (free_dead t r g)),
           λ l s v q. no_sheet t r g s v q,
         )
     go false i y j (got a r) k e =

@@ -9,7 +9,7 @@ use native.Mathlib.Omega.{arith}
 use lib.ListN.{length, take, drop, length-append}
 use lib.Seq.{length-take-le, take_all, take-append_seam, take-append-add, take-add}
 use lib.Dec.{leb, ltb}
-use borrow.Author.Tests.{leb_true, leb-false, ltb-true, ltb-false}
+use borrow.Author.Tests.{leb-true, leb-false, ltb-true, ltb-false}
 use Rattle.rules.specs.Sheets.{Sheet, spell_sheet, unlimited, within, below4, Free, Limited, Begins, Viable}
 use Rattle.rules.specs.SheetReading.{Read, got, stop, read_sheet, sheet_of}
 use Rattle.rules.specs.SheetFaults.{Refusal, refusal, beyond_sheet, Dead, Passed, FirstOfThree, readable, refused, sizes, sized, longest, judge}
@@ -244,14 +244,14 @@ refusals_are_earliest t k place e = go (leb (length t) longest) refl (sheet_of t
         → judge t ≡ refused k place → FirstOfThree (take longest t) k place
         ⊎ ((length t ≤ longest) × ((s : Sheet) × Limited s × (spell_sheet s ≡ t) × (sized s (sizes s) ≡ refused k place)))
     go true i (got a r) j z h e =
-        let l = leb_true (length t) longest i in
+        let l = leb-true (length t) longest i in
         let c = accepted t r a j in
         inr (l, (a, c.0, c.1, sym (judge_short t a r l j) ∙ e))
     go true i (stop n r) j z h e =
         let f : refused n (length t - length r) ≡ refused k place = rw (i, j, judge) at e in
         let m : n ≡ k = cc in
         let p : length t - length r ≡ place = cc in
-        inl (subst (λ x. FirstOfThree x k place) (sym (take_all longest t (leb_true (length t) longest i)))
+        inl (subst (λ x. FirstOfThree x k place) (sym (take_all longest t (leb-true (length t) longest i)))
         (subst (FirstOfThree t k) p (first_of_three t r k (j ∙ ap (λ c. stop c r) m))))
     go false i y j (got a r) h e =
         let f : refused 600 longest ≡ refused k place = rw (i, h, judge) at e in

@@ -1,5 +1,5 @@
 -- `build_sides::subtract_where` meets its contract, by whether it is asked for. Assumes nothing.
-use borrow.Author.Tests.{not-true, not_false}
+use borrow.Author.Tests.{not-true, not-false}
 use borrow.Author.Rules.{rules}
 use Rattle.build_sides.proofs.subtract_where.Statement.{statement}
 use Rattle.build_sides.proofs.subtract_where.Tie as tie
@@ -12,7 +12,7 @@ returns c =
 returns-2 : tie.Need-returns-2
 returns-2 c =
     let else = c.before.before.before.before in
-    rw (not_false else.before.before.before.before.args.on else.if1.false) c.before.before.subtract_product.ensures
+    rw (not-false else.before.before.before.before.args.on else.if1.false) c.before.before.subtract_product.ensures
 
 pub subtract-where-spec : {M : Type 1} → statement M
 subtract-where-spec = tie.close (tie.spec returns (λ c κs. search rules) (λ c. search rules) returns-2)

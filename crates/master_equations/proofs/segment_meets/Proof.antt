@@ -4,7 +4,7 @@ use mathlib.Core.Bool.{true, cond, ◌&&◌}
 use Prim.Native.Nat.{◌+◌, ◌*◌}
 use native.Mathlib.Nat.{add-zero}
 use native.Mathlib.Omega.{arith}
-use borrow.Author.Tests.{not-true, not_false, eq-eqb, ne_eqb}
+use borrow.Author.Tests.{not-true, not-false, eq-eqb, ne_eqb}
 use borrow.Author.Rules.{rules}
 use lib.Dec.{eqb}
 use lib.ListN.{length}
@@ -40,7 +40,7 @@ rest c =
     let r = read c in
     let a = (start c).args in
     rest_decides a.m a.waypoints.now a.end.now a.table.now a.i c.sums.result c.sums.ensures a.before
-    (not_false a.before (begun r).if1.left)
+    (not-false a.before (begun r).if1.left)
     (bits_same (at a.table.now (a.i * (2 * a.m + 2))) (at a.waypoints.now a.i)
     r.before.before.first.given
     r.before.left.given
@@ -61,7 +61,7 @@ returns-2 c =
     let b = begun c.before in
     let a = b.before.args in
     rw (
-      not_false a.before b.if1.left,
+      not-false a.before b.if1.left,
       add-zero,
       bits_differ (at a.table.now (a.i * (2 * a.m + 2))) (at a.waypoints.now a.i) c.if2.true,
     )

@@ -8,7 +8,7 @@ use native.Mathlib.Omega.{arith}
 use lib.Dec.{lit≤}
 use lib.ListN.{drop, length}
 use borrow.Author.Rules.{rules}
-use borrow.Author.Tests.{eq-eqb, ne_eqb, not-true, not_false}
+use borrow.Author.Tests.{eq-eqb, ne_eqb, not-true, not-false}
 use Rattle.rules.specs.Questions.{Question, first_no}
 use Rattle.rules.specs.Master.{set_of, size_questions, length_questions}
 use Rattle.rules.proofs.Questions.{yes_to, no_to, first_no_lem, first_yes}
@@ -55,7 +55,7 @@ past-5 c = past-4 c.before ∙ yes_to _ _ (eq-eqb _ _ c.if3.false)
 
 past-6 : (c : tie.Else4) → Past 6 (start (begun c.before.before))
 unfolding questions_before size_questions length_questions
-past-6 c = past-5 c.before.before ∙ yes_to _ _ (not_false _ c.if4.false)
+past-6 c = past-5 c.before.before ∙ yes_to _ _ (not-false _ c.if4.false)
 
 -- behind the first questions the order and the number of points are small
 order_bounds : (c : tie.Else1) → let order = (start c).args.order in (3 ≤ order) × (order ≤ 7)

@@ -5,7 +5,7 @@ use Prim.Native.Nat.{◌-◌}
 use native.Mathlib.Omega.{arith}
 use lib.ListN.{length, drop}
 use borrow.Author.Rules.{rules}
-use borrow.Author.Tests.{not-true, not_false}
+use borrow.Author.Tests.{not-true, not-false}
 use Rattle.rules.specs.SheetNumbers.{in_digits, sound, go_on}
 use Rattle.theorem_numbers.proofs.Going.{stays, is_open_lem}
 use Rattle.theorem_numbers.proofs.Pieces.{unsound_is_over, taken_sound, sound_size, digits_more, digits_over}
@@ -33,7 +33,7 @@ returns-2 c = sym (stays _ _ (unsound_is_over _ (sym c.before.is_sound.ensures.0
 loop-holds : tie.Need-loop-init invariant-loop decreases-loop
 loop-holds c = record {
   in-digits = c.before.before.if1.false;
-  is_sound = sym c.before.is_sound.ensures.0 ∙ not_false _ c.if2.false;
+  is_sound = sym c.before.is_sound.ensures.0 ∙ not-false _ c.if2.false;
   on = refl;
 }
 
@@ -59,7 +59,7 @@ loop-again c =
     let l = m.before.before.before.loop.invariant in
     let is = c.taken2.ensures in
     record {
-      in-digits = rw is (digits_more _ _ l.in-digits (sym m.is_more.ensures ∙ not_false _ c.before.if3.false));
+      in-digits = rw is (digits_more _ _ l.in-digits (sym m.is_more.ensures ∙ not-false _ c.before.if3.false));
       is_sound = rw is (taken_sound _ _ l.is_sound);
       on = rw is (sym (one_more _ _ _ m.before.before.loop-test.true (is_open_lem _ (omega arith) l.is_sound)) ∙ l.on);
     }

@@ -2,7 +2,7 @@
 use mathlib.Core.Path.{◌≡◌}
 use Prim.Native.Nat.{ℕ}
 use native.Mathlib.Omega.{arith}
-use borrow.Author.Tests.{le-leb, lt-leb, leb_true}
+use borrow.Author.Tests.{le-leb, lt-leb, leb-true}
 use Rattle.rules.specs.SheetNumbers.{sound}
 use Rattle.number_pieces.proofs.is_sound.Statement.{statement}
 use Rattle.number_pieces.proofs.is_sound.Tie as tie
@@ -13,7 +13,7 @@ returns c = (rw (lt-leb _ _ c.if1.true), λ e. let z : ◌≡◌ {A = ℕ} 0 1 =
 
 returns-2 : tie.Need-returns-2
 unfolding sound
-returns-2 c = (rw (le-leb _ _ c.before.if1.false), λ e. leb_true _ _ e)
+returns-2 c = (rw (le-leb _ _ c.before.if1.false), λ e. leb-true _ _ e)
 
 pub is-sound-spec : {M : Type 1} → statement M
 is-sound-spec = tie.close (tie.spec returns returns-2)

@@ -1,6 +1,6 @@
 -- The answer is the definition's by those of the three functions called; what `located` asks for is `scaled-is-a-number`. Assumes nothing.
 use Rattle.std.proofs.Common.{◌≡◌, true, sym, ap, ◌∙◌, rules}
-use borrow.Author.Tests.{not-true, not_false}
+use borrow.Author.Tests.{not-true, not-false}
 use Rattle.rules.specs.Query.{in_range, scaled, lookup, lookup_says}
 use Rattle.query_lookup.proofs.Scaled.{scaled_is_a_number}
 use Rattle.query_lookup.proofs.segment_tau.Statement.{statement}
@@ -9,7 +9,7 @@ use Rattle.query_lookup.proofs.segment_tau.Tie as tie
 -- the answer of `in_range` behind its test
 inside : (c : tie.Else1) → let a = c.before.before.before.before.args in
     in_range a.path.mode a.path.s_min a.path.s_max a.s ≡ true
-inside c = sym c.before.in_range.ensures ∙ not_false c.before.in_range.result c.if1.false
+inside c = sym c.before.in_range.ensures ∙ not-false c.before.in_range.result c.if1.false
 
 returns : tie.Need-returns
 unfolding lookup

@@ -10,7 +10,7 @@ use lib.Dec.{T}
 use lib.ListN.{drop}
 use lib.Ieee.{Float, eq, ne}
 use borrow.Author.Rules.{rules}
-use borrow.Author.Tests.{le-leb, lt-leb, eq-eqb, ne_eqb, not-true, not_false}
+use borrow.Author.Tests.{le-leb, lt-leb, eq-eqb, ne_eqb, not-true, not-false}
 use Rattle.rules.specs.Questions.{Question, first_no}
 use Rattle.rules.specs.Build.{valid_axes}
 use Rattle.rules.specs.Query.{path_questions, buffer_questions}
@@ -45,7 +45,7 @@ Past k p = first_no (asked p) ≡ first_no (drop k (asked p))
 -- `x != y` was asked of a function's answer y, which is z
 equal : (x : Float) {y z : Float} → y ≡ z → ne x y ≡ false → eq x z ≡ true
 unfolding ne
-equal x {y} e h = sym (ap (eq x) e) ∙ not_false (eq x y) h
+equal x {y} e h = sym (ap (eq x) e) ∙ not-false (eq x y) h
 
 unequal : (x : Float) {y z : Float} → y ≡ z → ne x y ≡ true → eq x z ≡ false
 unfolding ne

@@ -8,7 +8,7 @@ use Rattle.rules.specs.SheetReading as reading
 use Rattle.sheet_decimals.specs.Says.{up_to, DigitsSay}
 use Rattle.sheet_decimals.proofs.Readings.{digits_end, digits_other, digits_more, digits_large}
 use borrow.Author.Rules.{rules}
-use borrow.Author.Tests.{not-true, not_false}
+use borrow.Author.Tests.{not-true, not-false}
 use Rattle.sheet_decimals.proofs.digits.Statement.{statement}
 use Rattle.sheet_decimals.proofs.digits.Tie as tie
 
@@ -33,19 +33,19 @@ returns c =
     (λ over. sym (digits_other _ over _ _ more _ other) ∙ c.before.before.before.before.loop.invariant.on over, omega arith)
 
 sub_wide : tie.Need-overflow-sub-wide invariant-loop decreases-loop
-sub_wide c = (c.before.digit_from.ensures.1 (not_false _ c.if1.false)).0
+sub_wide c = (c.before.digit_from.ensures.1 (not-false _ c.if1.false)).0
 
 add-sum : tie.Need-overflow-add-sum invariant-loop decreases-loop
 add-sum c =
     let w = c.wide.ensures in
-    let d = c.before.before.digit_from.ensures.1 (not_false _ c.before.if1.false) in
+    let d = c.before.before.digit_from.ensures.1 (not-false _ c.before.if1.false) in
     omega arith
 
 returns-2 : tie.Need-returns-2 invariant-loop decreases-loop
 unfolding DigitsSay
 returns-2 c =
     let w = c.before.wide.ensures in
-    let digit = sym c.before.before.before.digit_from.ensures.0 ∙ not_false _ c.before.before.if1.false in (
+    let digit = sym c.before.before.before.digit_from.ensures.0 ∙ not-false _ c.before.before.if1.false in (
       λ over. sym (digits_large _ over _ _ c.before.before.before.before.before.loop-test.true _ digit (omega arith))
           ∙ c.before.before.before.before.before.before.loop.invariant.on over,
       omega arith,
@@ -54,7 +54,7 @@ returns-2 c =
 loop-again : tie.Need-loop-preserved invariant-loop decreases-loop
 loop-again c =
     let w = c.before.wide.ensures in
-    let digit = sym c.before.before.before.digit_from.ensures.0 ∙ not_false _ c.before.before.if1.false in
+    let digit = sym c.before.before.before.digit_from.ensures.0 ∙ not-false _ c.before.before.if1.false in
     record {
       within = omega arith;
       on = λ over.

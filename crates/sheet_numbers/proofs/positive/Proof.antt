@@ -5,7 +5,7 @@ use Rattle.sheet_decimals.specs.Says.{DigitsSay}
 use Rattle.sheet_numbers.specs.Says.{PositiveSays}
 use Rattle.sheet_numbers.proofs.Readings.{decimal_least, positive_end, positive_other, positive_on}
 use borrow.Author.Rules.{rules}
-use borrow.Author.Tests.{not-true, not_false}
+use borrow.Author.Tests.{not-true, not-false}
 use Rattle.sheet_numbers.proofs.positive.Statement.{statement}
 use Rattle.sheet_numbers.proofs.positive.Tie as tie
 
@@ -20,12 +20,12 @@ returns-2 c =
     (λ over. sym (positive_other _ over _ _ c.before.before.before.if1.false other), omega arith)
 
 sub_wide : tie.Need-overflow-sub-wide
-sub_wide c = let d = c.before.digit_from.ensures.1 (not_false _ c.if2.false) in omega arith
+sub_wide c = let d = c.before.digit_from.ensures.1 (not-false _ c.if2.false) in omega arith
 
 digits-requires : tie.Need-digits-requires
 digits-requires c κs =
     let w = c.wide.ensures in
-    let d = c.before.before.digit_from.ensures.1 (not_false _ c.before.if2.false) in
+    let d = c.before.before.digit_from.ensures.1 (not-false _ c.before.if2.false) in
     omega arith
 
 returns-3 : tie.Need-returns-3
@@ -33,7 +33,7 @@ unfolding DigitsSay PositiveSays
 returns-3 c =
     let h = c.before.before.before.before.before.if1.false in
     let digit = c.before.before.before.digit_from.ensures in
-    let taken = not_false _ c.before.before.if2.false in
+    let taken = not-false _ c.before.before.if2.false in
     let first = sym digit.0 ∙ taken in
     let d = digit.1 taken in
     let w = c.before.wide.ensures in
