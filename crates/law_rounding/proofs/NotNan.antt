@@ -37,6 +37,10 @@ sum_number f s a t b c =
 -- A difference of finite values may overflow, to an infinity.
 pub sub_number : (f : Format) (x y : Float) → T (finite x) → T (finite y) → is_nan (sub f x y) ≡ false
 unfolding sub add neg
+sub_number f nan y h k = elim h [ ]
+sub_number f (inf _) y h k = elim h [ ]
+sub_number f (fin s m e) nan h k = elim k [ ]
+sub_number f (fin s m e) (inf _) h k = elim k [ ]
 sub_number f (fin s m e) (fin t n d) h k = sum_number f s _ (not t) _ _
 
 not_zero : (n : ℕ) → 0 < n → n ≡ 0 → ⊥
@@ -46,6 +50,12 @@ not_zero n h e = omega arith
 pub mul_number : (f : Format) (x y : Float) → is_nan x ≡ false → T (positive y) → is_nan (mul f x y) ≡ false
 unfolding mul is_nan
 mul_number f nan y h k = h
+mul_number f (inf s) nan h k = elim k [ ]
+mul_number f (inf s) (inf _) h k = elim k [ ]
+mul_number f (inf s) (fin true n d) h k = elim k [ ]
+mul_number f (fin s m e) nan h k = elim k [ ]
+mul_number f (fin s m e) (inf _) h k = elim k [ ]
+mul_number f (fin s m e) (fin true n d) h k = elim k [ ]
 mul_number f (inf s) (fin false n d) h k =
     ap is_nan (cond_no (eqb n 0) nan (inf (unlike s false)) (not_T (eqb n 0) (λ e. not_zero n (ltb→lt 0 n k) (eqb→eq n 0 e))))
 mul_number f (fin s m e) (fin false n d) h k = round_number f _ _ _
@@ -62,23 +72,43 @@ no_more_than_nan (fin s m e) = refl
 -- finite values bound no infinity: by `le`, and by `lt` where the comparison is that neither end is passed
 pub finite_between : (lo hi x : Float) → T (finite lo) → T (finite hi) → T (le lo x) → T (le x hi) → T (finite x)
 unfolding le lt eq
+finite_between nan hi _ h k l g = elim h [ ]
+finite_between (inf _) hi _ h k l g = elim h [ ]
+finite_between (fin s m e) nan _ h k l g = elim k [ ]
+finite_between (fin s m e) (inf _) _ h k l g = elim k [ ]
+finite_between (fin s m e) (fin t n d) nan h k l g = elim l [ ]
 finite_between (fin s m e) (fin t n d) (inf true) h k l g = l
 finite_between (fin s m e) (fin t n d) (inf false) h k l g = g
 finite_between (fin s m e) (fin t n d) (fin u r i) h k l g = tt
 
 pub finite_not_outside : (lo hi x : Float) → T (finite lo) → T (finite hi) → T (not (is_nan x)) → T (not (lt x lo)) → T (not (lt hi x)) → T (finite x)
 unfolding lt is_nan
+finite_not_outside nan hi _ h k q l g = elim h [ ]
+finite_not_outside (inf _) hi _ h k q l g = elim h [ ]
+finite_not_outside (fin s m e) nan _ h k q l g = elim k [ ]
+finite_not_outside (fin s m e) (inf _) _ h k q l g = elim k [ ]
+finite_not_outside (fin s m e) (fin t n d) nan h k q l g = elim q [ ]
 finite_not_outside (fin s m e) (fin t n d) (inf true) h k q l g = l
 finite_not_outside (fin s m e) (fin t n d) (inf false) h k q l g = g
 finite_not_outside (fin s m e) (fin t n d) (fin u r i) h k q l g = tt
 
 pub above_zero : (x : Float) → T (finite x) → T (lt (fin false 0 (pos 0)) x) → T (positive x)
 unfolding lt
+above_zero nan h l = elim h [ ]
+above_zero (inf _) h l = elim h [ ]
+above_zero (fin true n d) h l = elim l [ ]
 above_zero (fin false n d) h l = lt→ltb 0 n (first_pos n (up d) (first_pos (n * up d) 1 (lt_of_le_of_lt zero-le (ltb→lt (0 * 1 * down d) (n * up d * 1) l))))
 
 -- -0 and +0 are equal, and no other two values of unlike signs
 pub equal_positive : (x y : Float) → T (positive y) → T (eq x y) → T (positive x)
 unfolding eq
+equal_positive nan y h e = elim e [ ]
+equal_positive (inf s) nan h e = elim h [ ]
+equal_positive (inf s) (inf _) h e = elim h [ ]
+equal_positive (inf s) (fin true n d) h e = elim h [ ]
+equal_positive (fin s m i) nan h e = elim h [ ]
+equal_positive (fin s m i) (inf _) h e = elim h [ ]
+equal_positive (fin s m i) (fin true n d) h e = elim h [ ]
 equal_positive (inf s) (fin false n d) h e = e
 equal_positive (fin s m i) (fin false n d) h e = go s (and_r (eqb a b) (beq s false || eqb a 0) e)
   where

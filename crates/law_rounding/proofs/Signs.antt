@@ -55,11 +55,14 @@ more a b h = lt→ltb b a (omega arith)
 -- an infinity divided is an infinity or a NaN
 of_infinity : (f : Format) (y : Float) → T (positive (div f (inf false) y)) → T (positive y)
 unfolding div
+of_infinity f nan h = elim h [ ]
+of_infinity f (inf _) h = elim h [ ]
 of_infinity f (fin t n d) h = absurd h
 
 -- A number divided by a zero is an infinity or a NaN, by an infinity a zero, and by a number below zero it is not above zero.
 of_number : (f : Format) (m : ℕ) (e : ℤ) (y : Float) → T (positive (div f (fin false m e) y)) → T (positive y)
 unfolding div
+of_number f m e nan h = elim h [ ]
 of_number f m e (inf true) h = h
 of_number f m e (inf false) h = h
 of_number f m e (fin true n d) h = not_below f _ _ (second (eqb n 0) _ (round f true _ _) (second (eqb m 0) nan (inf true) (λ h. h)) h)
@@ -87,5 +90,10 @@ sum_below f true a true b c h = go (ltb a b) (ltb b a) (more a b) h
 
 pub terms_apart : (f : Format) (x y : Float) → T (positive (sub f x y)) → T (finite y && finite x && lt y x)
 unfolding sub add neg lt
+terms_apart f nan y h = elim h [ ]
+terms_apart f (inf s) nan h = elim h [ ]
+terms_apart f (inf s) (fin t n d) h = elim h [ ]
+terms_apart f (fin s m e) nan h = elim h [ ]
+terms_apart f (fin s m e) (inf t) h = elim h [ ]
 terms_apart f (inf s) (inf t) h = absurd (second (beq s (not t)) (inf s) nan (λ h. h) h)
 terms_apart f (fin s m e) (fin t n d) h = sum_below f s _ t _ _ h
