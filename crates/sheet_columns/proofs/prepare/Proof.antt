@@ -1,3 +1,4 @@
+-- turned
 -- `sheet_columns::prepare` meets its contract: there is room for 8 axes of 257 points, and of 3 numbers of a state. Assumes nothing.
 use native.Mathlib.Nat.{mul-le-mul}
 use native.Mathlib.Omega.{arith}
@@ -30,12 +31,12 @@ returns c =
     let axes = args.n.axes in
     record {
       waypoints_are = first_columns 258 axes args.n.points args.points.now args.waypoints.now waypoints.transpose.ensures;
-      first_is = first_columns 4 axes args.n.start args.start.now args.first.now first.transpose2.ensures;
-      last_is = first_columns 4 axes args.n.end args.end.now args.last.now last.transpose3.ensures;
+      first_is = first_columns 4 axes args.n.start args.start.now args.first.now first.transpose-2.ensures;
+      last_is = first_columns 4 axes args.n.end args.end.now args.last.now last.transpose-3.ensures;
     }
 
-pub prepare-spec : {M : Type 1} → statement M
-prepare-spec =
+pub prepare_spec : {M : Type 1} → statement M
+prepare_spec =
     tie.close
     (tie.spec
     transpose-requires
