@@ -1,20 +1,35 @@
-// Calls and expected answers, read from standard input as pieces of fixed width. A line of 67 characters is a call's
+// Calls and expected answers, read from a reader, which is standard input in the programs, as pieces of fixed width. A line of 67 characters is a call's
 // name, or a remark, which starts with '#'. A line of 33 characters is a field: what it is, in at most 13, and a number
 // at the right end: a whole one in decimal, or a float by the 16 hexadecimal digits of its bits. A list of floats has
 // 16 such digits for each, and behind it one character more, a space or a line's end; a small number has 3 decimal
 // digits, and one character more; an integer has 20 characters, its decimal digits at the right end with the
 // minus before them, and one character more.
-ghost use Rattle.std.specs.Prelude.{◌≤◌};
+ghost use Rattle.std.specs.Prelude.{◌≤◌, length};
 
 use crate::bits;
-use libc::STDIN_FILENO;
 use rules::OutOfRangeMode;
+use std::io::Read;
 
 pub fn least(a: usize, b: usize) -> usize
     ensures upper_bound { result ≤ a }
     ensures upper_bound_2 { result ≤ b }
 {
     if a < b { a } else { b }
+}
+
+// Reads until a list is full, the input ends or a read fails, and returns how many bytes it put at the list's start.
+pub fn full<R: Read>(reader: &mut R, list: &mut [u8]) -> usize
+    ensures { result ≤ length list.new }
+{
+    let mut done = 0;
+    while done < list.len() {
+        match reader.read(&mut list[done..]) {
+            Ok(0) => return done,
+            Ok(n) => done += n,
+            Err(_) => return done,
+        }
+    }
+    done
 }
 
 // A call's name, and how many characters there were: fewer than 68 at the end of the input.
@@ -25,9 +40,9 @@ pub struct Name {
     pub is_remark: bool,
 }
 
-pub fn next_name() -> Name {
+pub fn next_name<R: Read>(reader: &mut R) -> Name {
     let mut text = [0u8; 68];
-    let length = io::read_full(STDIN_FILENO, &mut text);
+    let length = full(reader, &mut text);
     let first = text[0];
     Name {
         text,
@@ -85,51 +100,51 @@ fn digits(line: &[u8], from: usize, to: usize, decimal: bool) -> Number {
 }
 
 // A field with a whole number.
-pub fn count() -> usize {
+pub fn count<R: Read>(reader: &mut R) -> usize {
     let mut line = [0u8; 34];
-    io::read_full(STDIN_FILENO, &mut line);
+    full(reader, &mut line);
     digits(&line, 13, 33, true).magnitude as usize
 }
 
 // A field with a float.
-pub fn float() -> f64 {
+pub fn float<R: Read>(reader: &mut R) -> f64 {
     let mut line = [0u8; 34];
-    io::read_full(STDIN_FILENO, &mut line);
+    full(reader, &mut line);
     bits::float(digits(&line, 17, 33, false).magnitude)
 }
 
 // A field with a mode: 0 Error, 1 Clamp.
-pub fn mode() -> OutOfRangeMode {
-    if count() == 1 {
+pub fn mode<R: Read>(reader: &mut R) -> OutOfRangeMode {
+    if count(reader) == 1 {
         return OutOfRangeMode::Clamp;
     }
     OutOfRangeMode::Error
 }
 
 // The next float of a list.
-pub fn cell() -> f64 {
+pub fn cell<R: Read>(reader: &mut R) -> f64 {
     let mut line = [0u8; 17];
-    io::read_full(STDIN_FILENO, &mut line);
+    full(reader, &mut line);
     bits::float(digits(&line, 0, 16, false).magnitude)
 }
 
 // A small number.
-pub fn small() -> usize {
+pub fn small<R: Read>(reader: &mut R) -> usize {
     let mut line = [0u8; 4];
-    io::read_full(STDIN_FILENO, &mut line);
+    full(reader, &mut line);
     digits(&line, 0, 3, true).magnitude as usize
 }
 
 // So many floats of a list, put at the start of another.
-pub fn floats(list: &mut [f64], n: usize) {
+pub fn floats<R: Read>(reader: &mut R, list: &mut [f64], n: usize) {
     for i in 0..least(n, list.len()) {
-        list[i] = cell();
+        list[i] = cell(reader);
     }
 }
 
-fn next_integer() -> Number {
+fn next_integer<R: Read>(reader: &mut R) -> Number {
     let mut line = [0u8; 21];
-    io::read_full(STDIN_FILENO, &mut line);
+    full(reader, &mut line);
     digits(&line, 0, 20, true)
 }
 
@@ -149,18 +164,18 @@ fn signed(n: Number) -> i64 {
 }
 
 // The next integer of a list.
-pub fn integer() -> i64 {
-    signed(next_integer())
+pub fn integer<R: Read>(reader: &mut R) -> i64 {
+    signed(next_integer(reader))
 }
 
 // The same where it is not below 0.
-pub fn natural() -> usize {
-    next_integer().magnitude as usize
+pub fn natural<R: Read>(reader: &mut R) -> usize {
+    next_integer(reader).magnitude as usize
 }
 
 // So many integers of a list, put at the start of another.
-pub fn integers(list: &mut [i64], n: usize) {
+pub fn integers<R: Read>(reader: &mut R, list: &mut [i64], n: usize) {
     for i in 0..least(n, list.len()) {
-        list[i] = integer();
+        list[i] = integer(reader);
     }
 }
