@@ -1,3 +1,4 @@
+-- turned
 -- `sheet_bits::bits_of` meets its contract. Assumes nothing.
 use mathlib.Core.Path.{◌≡◌, refl, sym, ◌∙◌}
 use mathlib.Core.Bool.{false, not}
@@ -17,11 +18,11 @@ nan-bits nan e = refl
 nan-bits (inf s) e = let z : ◌≡◌ {A = ℕ} 0 1 = cc in absurd (omega arith)
 nan-bits (fin s m x) e = let z : ◌≡◌ {A = ℕ} 0 1 = cc in absurd (omega arith)
 
-float-to-bits-result : tie.Need-float-to-bits-result
-float-to-bits-result c = passes _ (sym (number_test c.before.args.x) ∙ c.if1.true)
+float-to-bits-result : tie.Need-float_to_bits-result
+float-to-bits-result c = passes _ (sym (number_test c.before.args.x) ∙ c.if-x.true)
 
-returns-2 : tie.Need-returns-2
-returns-2 c = nan-bits _ (sym (number_test c.before.args.x) ∙ c.if1.false)
+returns-2 : tie.Need-returns-else-x
+returns-2 c = nan-bits _ (sym (number_test c.before.args.x) ∙ c.if-x.false)
 
-pub bits-of-spec : {M : Type 1} → statement M
-bits-of-spec = tie.close (tie.spec float-to-bits-result (λ c. search rules) returns-2)
+pub bits_of_spec : {M : Type 1} → statement M
+bits_of_spec = tie.close (tie.spec float-to-bits-result (λ c. search rules) returns-2)

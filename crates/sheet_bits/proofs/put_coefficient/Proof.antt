@@ -1,3 +1,4 @@
+-- turned
 -- `sheet_bits::put_coefficient` meets its contract. Assumes nothing.
 use mathlib.Core.Path.{ap}
 use mathlib.Core.List.{◌++◌}
@@ -15,7 +16,7 @@ returns c =
     let bits = c.before.before.before in
     let space = bits.before.before.before.before in
     wrote_as (ap (λ (b : ℕ). bytes " " ++ hex b) bits.bits_of.ensures)
-    (wrote_both space.put_bytes.ensures (omega arith) c.before.before.put_hex.ensures)
+    (wrote_both space.put_bytes-next.ensures (omega arith) c.before.before.put_hex.ensures)
 
-pub put-coefficient-spec : {M : Type 1} → statement M
-put-coefficient-spec = tie.close (tie.spec (λ c. search rules) (λ c κs. search rules) (λ c κs. search rules) (λ c κs. search rules) (λ c. search rules) returns)
+pub put_coefficient_spec : {M : Type 1} → statement M
+put_coefficient_spec = tie.close (tie.spec (λ c κs. search rules) (λ c κs. search rules) (λ c κs. search rules) (λ c. search rules) returns)
