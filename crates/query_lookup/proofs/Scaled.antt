@@ -12,6 +12,12 @@ use Rattle.law_rounding.proofs.NotNan.{sub_number, mul_number, finite_between, f
 
 -- what the question says: each of its tests but the order of the ends, which is not needed here
 each : (a b c d e f : Bool) → T (a && b && c && d && e && f) → T a × T b × T d × T e × T f
+each false b c d e f h = elim h [ ]
+each true false c d e f h = elim h [ ]
+each true true false d e f h = elim h [ ]
+each true true true false e f h = elim h [ ]
+each true true true true false f h = elim h [ ]
+each true true true true true false h = elim h [ ]
 each true true true true true true h = (tt, tt, tt, tt, tt)
 
 -- An s that is taken is finite like the ends, once it is set to the nearest end in Clamp.
@@ -22,6 +28,9 @@ clamped_finite Error lo hi s h k r = go (is_nan s.0) (le lo.0 s.0) (le s.0 hi.0)
   where
     go : (n a b : Bool) → (T a → T b → T (finite s.0)) → T (not n && a && b) → T (finite s.0)
     go false true true between t = between tt tt
+    go false false b between t = elim t [ ]
+    go false true false between t = elim t [ ]
+    go true a b between t = elim t [ ]
 clamped_finite Clamp lo hi s h k r = go (lt s.0 lo.0) (lt hi.0 s.0) (finite_not_outside lo.0 hi.0 s.0 h k r)
   where
     go : (a b : Bool) → (T (not a) → T (not b) → T (finite s.0)) → T (finite (cond a lo (cond b hi s)).0)

@@ -10,6 +10,7 @@ ghost use Rattle.query_lookup.specs.Path.{Findable};
 use rules::{Lookup, OutOfRangeMode, PathParam, PathRecord, SegmentUnits};
 
 // Q10: the last question. No comparison with a NaN holds.
+#[tactic(auto, using(law_rounding::proofs::NotNan::number_test), unfolding(rules::specs::Query::in_range))]
 fn in_range(mode: OutOfRangeMode, s_min: PathParam, s_max: PathParam, s: PathParam) -> bool
     ensures { result ≡ in_range mode s_min s_max s }
 {
@@ -20,6 +21,7 @@ fn in_range(mode: OutOfRangeMode, s_min: PathParam, s_max: PathParam, s: PathPar
 }
 
 // R21: in Clamp, the nearest end in the place of an s outside the range, infinities included.
+#[tactic(auto, unfolding(rules::specs::Query::clamped))]
 fn clamped(mode: OutOfRangeMode, s_min: PathParam, s_max: PathParam, s: PathParam) -> PathParam
     ensures { result ≡ Query.clamped mode s_min s_max s }
 {
