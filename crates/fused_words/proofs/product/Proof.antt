@@ -1,3 +1,4 @@
+-- turned
 -- By halves of 32 bits. The middle column's two products have 63 bits each, so their sum fits. Assumes nothing.
 use Rattle.std.proofs.Common.{ℕ, ◌+◌, ◌*◌, ◌/◌, ◌%◌, ◌^◌, ◌<◌, ap, ◌∙◌, lt_of_lt_of_le, mod-lt, arith, lit≤, pow_pos, shl_lt, shr_lt, rules}
 use lib.Pow.{add-lt-pow}
@@ -23,24 +24,24 @@ high_fits : (a b : ℕ) → a < 2 ^ 63 → b < 2 ^ 63 → a / 2 ^ 32 * (b / 2 ^ 
 high_fits a b p q = add-lt-pow 62 (mul_lt_pow 31 31 (upper p) (upper q)) (lt_of_lt_of_le (shr_lt 32 32 (middle-fits a b p q)) (lit≤ tt))
 
 -- where the carry is known
-abbrev start : tie.After-below → tie.Start
+abbrev start : tie.After-below-carry → tie.Start
 start c = c.before.before
 
-high_room : (c : tie.After-below) → let a = (start c).args in a.a / 2 ^ 32 * (a.b / 2 ^ 32) + middle a.a a.b / 2 ^ 32 < 2 ^ 63
+high_room : (c : tie.After-below-carry) → let a = (start c).args in a.a / 2 ^ 32 * (a.b / 2 ^ 32) + middle a.a a.b / 2 ^ 32 < 2 ^ 63
 high_room c = let a = (start c).args in let p = (start c).requires in high_fits a.a a.b p.0 p.1
 
 returns : tie.Need-returns
 returns c =
     let a = (start c).args.a in
     let b = (start c).args.b in
-    let w = c.before.wrapping_add_u64 in
-    multiplied (2 ^ 32) a b c.below.result w.result
-    (ap (λ (k : ℕ). k * 2 ^ 64 + w.result) c.below.ensures.0
+    let w = c.before.wrapping_add_u64-low in
+    multiplied (2 ^ 32) a b c.below-carry.result w.result
+    (ap (λ (k : ℕ). k * 2 ^ 64 + w.result) c.below-carry.ensures.0
     ∙ carried (2 ^ 64) (a % 2 ^ 32 * (b % 2 ^ 32)) (middle a b % 2 ^ 32 * 2 ^ 32) w.result
     (mul_lt_pow 32 32 (lower a) (lower b)) (shl_lt 32 32 (lower (middle a b))) w.ensures)
 
-pub product-spec : {M : Type 1} → statement M
-product-spec =
+pub product_spec : {M : Type 1} → statement M
+product_spec =
     tie.close
     (tie.spec
     (λ c. Fits-bits 63 tt (mul_lt_pow 31 32 (upper c.requires.0) (lower c.args.b)))
@@ -52,5 +53,5 @@ product-spec =
     (λ c κs. search rules)
     (λ c. Fits-bits 62 tt (mul_lt_pow 31 31 (upper (start c).requires.0) (upper (start c).requires.1)))
     (λ c. Fits-bits 63 tt (high_room c))
-    (λ c. omega (arith, high_room c, c.below.ensures.1))
+    (λ c. omega (arith, high_room c, c.below-carry.ensures.1))
     returns)
