@@ -1,3 +1,4 @@
+-- turned
 -- `build_forward::forward` solves forward. The loop's invariant: y is the right side after the first k rows. Assumes nothing.
 use mathlib.Core.Path.{◌≡◌, sym, ap, ◌∙◌}
 use Prim.Native.Nat.{◌-◌, ◌≤◌}
@@ -9,10 +10,10 @@ use Rattle.build_forward.proofs.Steps.{forward_more}
 use Rattle.build_forward.proofs.forward.Statement.{statement}
 use Rattle.build_forward.proofs.forward.Tie as tie
 
-abbrev invariant-loop : tie.invariant-loop
+abbrev invariant-loop : tie.invariant-loop-k
 invariant-loop m entries rows b y₀ k₀ y k = (k ≤ m) × (length y ≡ m) × (y ≡ forward m (record { entries = entries; rows = rows }) b k)
 
-abbrev decreases-loop : tie.decreases-loop
+abbrev decreases-loop : tie.decreases-loop-k
 decreases-loop m entries rows b y₀ k₀ y k = m - k
 
 permuted-requires : tie.Need-permuted-requires invariant-loop decreases-loop
@@ -20,29 +21,29 @@ permuted-requires c κs =
     let pre = c.before.before.before.before.before.requires in
     (pre.y_length ∙ sym pre.rows_length, λ i h. rw pre.b_length (pre.rows_below i h))
 
-loop-holds : tie.Need-loop-init invariant-loop decreases-loop
+loop-holds : tie.Need-loop-k-init invariant-loop decreases-loop
 unfolding forward
 loop-holds c =
     let call = c.before.before.permuted in
     let pre = c.before.before.before.before.before.before.before.before.requires in
-    (omega arith, call.auto.1.1.0 ∙ pre.y_length, call.ensures ∙ rw pre.rows_length)
+    (omega arith, call.auto.out ∙ pre.y_length, call.ensures ∙ rw pre.rows_length)
 
-loop-again : tie.Need-loop-preserved invariant-loop decreases-loop
+loop-again : tie.Need-loop-k-preserved invariant-loop decreases-loop
 loop-again c =
     let at-loop = c.before.before.before.before.before in
     let call = c.before.before.forward_step in (
       omega arith,
-      call.auto.1.1.1.0 ∙ at-loop.loop.invariant.1,
-      call.ensures ∙ rw (forward_more, at-loop.loop.invariant.2),
+      call.auto.y ∙ at-loop.loop-k.invariant.1,
+      call.ensures ∙ rw (forward_more, at-loop.loop-k.invariant.2),
     )
 
 returns : tie.Need-returns invariant-loop decreases-loop
 returns c =
-    let all : c.before.loop.k ≡ c.before.before.before.before.before.before.before.before.before.before.args.m = omega arith in
-    c.before.loop.invariant.2 ∙ ap (forward _ _ _) all
+    let all : c.before.loop-k.k ≡ c.before.before.before.before.before.before.before.before.before.before.args.m = omega arith in
+    c.before.loop-k.invariant.2 ∙ ap (forward _ _ _) all
 
-pub forward-spec : {M : Type 1} → statement M
-forward-spec =
+pub forward_spec : {M : Type 1} → statement M
+forward_spec =
     tie.close
     (tie.spec
     invariant-loop
