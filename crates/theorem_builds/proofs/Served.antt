@@ -5,7 +5,7 @@ use Prim.Native.Nat.{ℕ, ◌*◌, ◌-◌, ◌≤◌}
 use native.Mathlib.Omega.{arith}
 use borrow.Author.Tests.{le-leb, eq-eqb}
 use lib.Dec.{T, eqb, eqb_refl}
-use lib.Ieee.{Float, fin, up, down, lt, eq}
+use lib.Ieee.{Float, nan, inf, fin, up, down, lt, eq}
 use lib.Ieee.Bits.{is_true}
 use lib.Ieee.Fits.{and_i, and_l, and_r}
 use Rattle.rules.specs.declared.PathParam.{PathParam}
@@ -24,6 +24,8 @@ same_sign false n = tt
 
 equals_itself : (x : Float) → T (finite x) → eq x x ≡ true
 unfolding eq
+equals_itself nan h = elim h [ ]
+equals_itself (inf _) h = elim h [ ]
 equals_itself (fin s m e) h = let n = m * up e * down e in is_true _ (and_i (eqb n n) (beq s s || eqb n 0) (eqb_refl n) (same_sign s n))
 
 module _ (b : BuildInput) (cells : ℕ) (e : build_number b cells ≡ 0) where
