@@ -1,14 +1,13 @@
 -- Answers and tests: what an answered question says of the definition's test. Assumes nothing.
 use mathlib.Core.Path.{◌≡◌, sym, ◌∙◌}
-use mathlib.Core.Bool.{Bool, true, false, not, ◌&&◌}
-use borrow.Author.Tests.{not-true, not-false}
+use mathlib.Core.Bool.{Bool, true, false, ◌&&◌}
 
 -- a function answered r, which is b, and the code asked `if !r`
-pub no : {b r : Bool} → r ≡ b → not r ≡ true → b ≡ false
-no {b} {r} e h = sym e ∙ not-true r h
+pub no : {b r : Bool} → r ≡ b → r ≡ false → b ≡ false
+no e h = sym e ∙ h
 
-pub yes : {b r : Bool} → r ≡ b → not r ≡ false → b ≡ true
-yes {b} {r} e h = sym e ∙ not-false r h
+pub yes : {b r : Bool} → r ≡ b → r ≡ true → b ≡ true
+yes e h = sym e ∙ h
 
 -- tests one after the other: where the first say yes, the last decides
 pub both : {a b : Bool} → a ≡ true → b ≡ true → (a && b) ≡ true

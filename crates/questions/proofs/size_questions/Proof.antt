@@ -1,3 +1,4 @@
+-- turned
 -- Each way out is a question's no, or a yes to all. Assumes nothing.
 use borrow.Author.Rules.{rules}
 use borrow.Author.Tests.{le-leb, lt-leb}
@@ -7,25 +8,25 @@ use Rattle.questions.proofs.Tests.{no, yes}
 use Rattle.questions.proofs.size_questions.Statement.{statement}
 use Rattle.questions.proofs.size_questions.Tie as tie
 
-returns : tie.Need-returns
+returns : tie.Need-returns-then-not-valid_order
 unfolding first_no size_questions
-returns c = rw (no c.before.valid_order.ensures c.if1.true)
+returns c = rw (no c.before.valid_order.ensures c.if-not-valid_order.true)
 
-returns-2 : tie.Need-returns-2
+returns-2 : tie.Need-returns-then-points-lt2
 unfolding first_no size_questions
-returns-2 c = rw (yes c.before.before.valid_order.ensures c.before.if1.false, lt-leb 2 _ c.if2.true)
+returns-2 c = rw (yes c.before.before.valid_order.ensures c.before.if-not-valid_order.false, lt-leb 2 _ c.if-points-lt2.true)
 
-returns-3 : tie.Need-returns-3
+returns-3 : tie.Need-returns-then-points-gt257
 unfolding first_no size_questions
 returns-3 c =
     let two = c.before in
-    rw (yes two.before.before.valid_order.ensures two.before.if1.false, le-leb 2 _ two.if2.false, lt-leb _ 257 c.if3.true)
+    rw (yes two.before.before.valid_order.ensures two.before.if-not-valid_order.false, le-leb 2 _ two.if-points-lt2.false, lt-leb _ 257 c.if-points-gt257.true)
 
-returns-4 : tie.Need-returns-4
+returns-4 : tie.Need-returns
 unfolding first_no size_questions
 returns-4 c =
     let two = c.before in
-    rw (yes two.before.before.valid_order.ensures two.before.if1.false, le-leb 2 _ two.if2.false, le-leb _ 257 c.if3.false)
+    rw (yes two.before.before.valid_order.ensures two.before.if-not-valid_order.false, le-leb 2 _ two.if-points-lt2.false, le-leb _ 257 c.if-points-gt257.false)
 
-pub size-questions-spec : {M : Type 1} → statement M
-size-questions-spec = tie.close (tie.spec (λ c κs. search rules) returns returns-2 returns-3 returns-4)
+pub size_questions_spec : {M : Type 1} → statement M
+size_questions_spec = tie.close (tie.spec (λ c κs. search rules) returns returns-2 returns-3 returns-4)
