@@ -1,3 +1,4 @@
+-- turned
 -- `build_records::no_path` meets its contract. Assumes nothing.
 use mathlib.Core.Path.{refl}
 use lib.Ieee.{of_bits}
@@ -9,5 +10,5 @@ returns : tie.Need-returns
 unfolding refused_record of_bits
 returns c = refl
 
-pub no-path-spec : {M : Type 1} → statement M
-no-path-spec = tie.close (tie.spec returns)
+pub no_path_spec : {M : Type 1} → statement M
+no_path_spec = tie.close (tie.spec returns)
