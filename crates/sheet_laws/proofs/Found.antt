@@ -9,49 +9,7 @@ use native.Mathlib.Omega.{arith}
 use lib.IntN.{ℤ, pos, negsuc, nat_abs}
 use lib.ListN.{length, length-append}
 use borrow.Author.Tests.{leb-false}
-use Rattle.rules.specs.Sheets.{
-  bytes,
-  Item,
-  Items,
-  whole,
-  again,
-  one,
-  more,
-  states,
-  Axis,
-  axis,
-  Axes,
-  only,
-  next,
-  Range,
-  range,
-  Heading,
-  heading,
-  Sheet,
-  sheet,
-  decimal,
-  natural,
-  signed,
-  spell_item,
-  spell_items,
-  spell_states,
-  spell_axis,
-  spell_axes,
-  spell_range,
-  spell_heading,
-  spell_sheet,
-  ValidItem,
-  ValidItems,
-  ValidStates,
-  ValidAxis,
-  ValidAxes,
-  ValidHeading,
-  ValidSheet,
-  unlimited,
-  within,
-  below4,
-  Free,
-}
+use Rattle.rules.specs.Sheets.{bytes, Item, Items, whole, again, one, more, Axis, Axes, only, next, Range, range, Heading, heading, Sheet, sheet, decimal, natural, signed, spell_item, spell_items, spell_states, spell_axis, spell_axes, spell_range, spell_heading, spell_sheet, ValidItem, ValidItems, ValidStates, ValidAxis, ValidAxes, ValidHeading, ValidSheet, unlimited, within, below4, Free}
 use Rattle.rules.specs.SheetReading.{
   Read,
   got,
@@ -93,6 +51,10 @@ use Rattle.sheet_laws.proofs.Steps.{ItemEnds, stops_item, items_n, item_n, item_
 use Rattle.sheet_laws.proofs.Limits.{within_small, within_shorter}
 use Rattle.sheet_laws.proofs.LimitItems.{natural_first, plain_first}
 use Rattle.sheet_laws.proofs.Whole.{
+  axis_parts,
+  range_parts,
+  sheet_parts,
+  states_parts,
   Last,
   led_list,
   led_number,
@@ -372,14 +334,14 @@ states_finds : Finds spell_states (ValidStates unlimited unlimited) (read_states
 unfolding read_states ValidStates beyond_states
 states_finds =
     pair_finds _ _ _ _ _ (states-joins unlimited unlimited no_limit no_shorter) (list_finds (bytes " (start ")) end_finds
-    (λ c. elim c [ states s e ↦ λ v. (s, e, refl, v.0, v.1) ]) (λ a b z f. tt)
+    (states_parts unlimited unlimited no_limit no_shorter) (λ a b z f. tt)
     (λ s e p. ap (λ q. beyond 0 (p + length (bytes " (start ")) s ++ beyond 0 q e) (omega (arith, length-append (spell_items s) (bytes " (end "))))
 
 axis_finds : Finds spell_axis (ValidAxis unlimited unlimited) (read_axis within below4) Any beyond_axis
 unfolding read_axis ValidAxis beyond_axis
 axis_finds =
     pair_finds _ _ _ _ _ (axis-joins unlimited unlimited no_limit no_shorter) (list_finds (bytes "(axis (points ")) states_finds
-    (λ c. elim c [ axis s e ↦ λ v. (s, e, refl, v.0, v.1) ]) (λ a b z f. tt)
+    (axis_parts unlimited unlimited no_limit no_shorter) (λ a b z f. tt)
     (λ s e p. ap (λ q. beyond 0 (p + length (bytes "(axis (points ")) s ++ beyond_states q e) (omega arith))
 
 abbrev FoundAxes : ℕ → ℕ → ℕ → Axes → Type 0
@@ -449,7 +411,7 @@ range_finds : Finds spell_range (RangeOk unlimited unlimited no_limit no_shorter
 unfolding read_range RangeOk beyond_range
 range_finds =
     pair_finds _ _ _ _ _ (range-joins unlimited unlimited no_limit no_shorter) (numbers_finds (bytes ")\n(range ")) upper_finds
-    (λ c. elim c [ range s e ↦ λ v. (s, e, refl, v.0, v.1) ]) (λ a b z f. tt)
+    (range_parts unlimited unlimited no_limit no_shorter) (λ a b z f. tt)
     (λ s e p. ap (λ q. large (p + length (bytes ")\n(range ")) s ++ large q e) (omega (arith, length-append (signed s) (bytes " "))))
 
 heading_finds : Finds spell_heading (ValidHeading unlimited unlimited) (read_heading within below4) Any beyond_from
@@ -462,7 +424,7 @@ sheets_finds : Finds spell_sheet Free (read_sheet within below4) Last sheet_from
 unfolding read_sheet ValidSheet sheet_from
 sheets_finds =
     pair_finds _ _ _ _ _ (sheet-joins unlimited unlimited no_limit no_shorter) heading_finds axes_finds
-    (λ c. elim c [ sheet h axs ↦ λ v. (h, axs, refl, v.0, v.1) ]) (λ a b z f. f) (λ s e p. refl)
+    (sheet_parts unlimited unlimited no_limit no_shorter) (λ a b z f. f) (λ s e p. refl)
 
 from_start : (s : Sheet) → sheet_from 0 s ≡ beyond_sheet s
 unfolding sheet_from beyond_from beyond_range beyond_sheet beyond_heading

@@ -3,7 +3,7 @@ use Prim.{Unit, tt}
 use mathlib.Core.Path.{◌≡◌, refl, sym, ap, subst, ◌∙◌}
 use mathlib.Core.Bool.{Bool, true}
 use mathlib.Core.List.{List, [], ◌∷◌, ◌++◌, append_assoc, append-nil}
-use Prim.Native.Nat.{ℕ, zero, suc, ◌+◌, ◌*◌, ◌<◌}
+use Prim.Native.Nat.{ℕ, zero, suc, ◌+◌, ◌*◌, ◌<◌, ◌≤◌}
 use native.Mathlib.Omega.{arith}
 use lib.IntN.{ℤ, pos, nat_abs}
 use lib.ListN.{length, drop, length-append}
@@ -65,7 +65,7 @@ use Rattle.sheet_laws.proofs.Decimal.{Stops}
 use Rattle.sheet_laws.proofs.Exact.{Fault, Out, reads, faults, other, Complete, Any, Joins, both_complete, both_out}
 use Rattle.sheet_laws.proofs.Words.{always, word_n, word_complete, word_out, Ends, stops_ends, ends_keeps, Number, number_complete, number_out}
 use Rattle.sheet_laws.proofs.Items.{items_complete, items_out}
-use Rattle.sheet_laws.proofs.Short.{then_short, word_short, number_short, items_short}
+use Rattle.sheet_laws.proofs.Short.{rest, then_short, word_short, number_short, items_short}
 use Rattle.sheet_laws.proofs.Beside.{
   Short,
   ended,
@@ -344,11 +344,15 @@ module _ (fits : ℕ → Bool) (opens : ℕ → Bool) (small : (d : ℕ) → d <
   unfolding spell_states end_spelled ValidStates
   states-joins = any_joins (λ s e. refl) (λ s e v w. (v, w)) (λ s e z f. tt) nought nought_ok (list_after_lem (bytes " (start ")).all
 
+  pub states_parts : (c : States) → StatesOk c → (s e : Items) × (states s e ≡ c) × ListOk s × ListOk e
+  unfolding ValidStates
+  states_parts (states s e) v = (s, e, refl, v.0, v.1)
+
   states_exact : Exactly spell_states StatesOk (read_states fits opens) (read_states unlimited unlimited) Any
   unfolding read_states ValidStates
   states_exact =
       pair_exact states-joins (list_after_lem (bytes " (start ")) end_exact
-      (λ c. elim c [ states s e ↦ λ v. (s, e, refl, v.0, v.1) ]) (λ a b z f. tt)
+      states_parts (λ a b z f. tt)
 
   plain_states : States
   plain_states = states nought nought
@@ -363,11 +367,15 @@ module _ (fits : ℕ → Bool) (opens : ℕ → Bool) (small : (d : ℕ) → d <
   unfolding spell_axis ValidAxis
   axis-joins = any_joins (λ p st. refl) (λ p st v w. (v, w)) (λ p st z f. tt) plain_states plain_states_ok (list_after_lem (bytes "(axis (points ")).all
 
+  pub axis_parts : (c : Axis) → AxisOk c → (p : Items) × (st : States) × (axis p st ≡ c) × ListOk p × StatesOk st
+  unfolding ValidAxis
+  axis_parts (axis p st) v = (p, st, refl, v.0, v.1)
+
   pub axis_exact : Exactly spell_axis AxisOk (read_axis fits opens) (read_axis unlimited unlimited) Any
   unfolding read_axis ValidAxis
   axis_exact =
       pair_exact axis-joins (list_after_lem (bytes "(axis (points ")) states_exact
-      (λ c. elim c [ axis p st ↦ λ v. (p, st, refl, v.0, v.1) ]) (λ a b z f. tt)
+      axis_parts (λ a b z f. tt)
 
   -- ---- axes, to the end of the text
 
@@ -457,16 +465,24 @@ module _ (fits : ℕ → Bool) (opens : ℕ → Bool) (small : (d : ℕ) → d <
       go (other j z e h) ih = other j z (axes_stop fits opens (suc k) n t j z e) h
       go (faults z e f) ih = faults z (axes_stop fits opens (suc k) n t 600 z e) (first_fault (suc k) t z f)
 
+  -- what is read of the axes after axis a, where r is left
+  abbrev axes_rest : ℕ → ℕ → Axis → List ℕ → Read Axes
+  axes_rest k m a r = elim r [
+    | [] ↦ got (only a) []
+    | b ∷ r1 ↦ then (read_axes unlimited unlimited k m (b ∷ r1)) (λ axes z. got (next a axes) z)
+  ]
+
+  rest_short : (k m : ℕ) → ((t : List ℕ) → length (rest (read_axes unlimited unlimited k m t)) ≤ length t) → (a : Axis) (r : List ℕ)
+      → length (rest (axes_rest k m a r)) ≤ length r
+  rest_short k m h a [] = omega arith
+  rest_short k m h a (b ∷ r1) = then_short (length (b ∷ r1)) (read_axes unlimited unlimited k m (b ∷ r1)) _ (h (b ∷ r1)) (λ c s. omega arith)
+
   -- the axes do not end before their start
   axes_short : (k : ℕ) → Short (read_axes unlimited unlimited k)
   unfolding Short read_axes
   axes_short zero m t = omega arith
   axes_short (suc k) m t =
-      then_short (length t) (read_axis unlimited unlimited m t) _ (axis_exact.short m t)
-      (λ a r. elim r [
-        | [] ↦ omega arith
-        | b ∷ r1 ↦ then_short (length (b ∷ r1)) (read_axes unlimited unlimited k m (b ∷ r1)) _ (axes_short k m (b ∷ r1)) (λ c s. omega arith)
-      ])
+      then_short (length t) (read_axis unlimited unlimited m t) (axes_rest k m) (axis_exact.short m t) (rest_short k m (axes_short k m))
 
   abbrev AxesBeside : ℕ → ℕ → List ℕ → Type 0
   AxesBeside k n t = Beside spell_axes (λ axs. AxesOk axs k) (read_axes fits opens k) Last t (read_axes fits opens k n t) (read_axes unlimited unlimited k n t)
@@ -481,10 +497,7 @@ module _ (fits : ℕ → Bool) (opens : ℕ → Bool) (small : (d : ℕ) → d <
       go (fail z e i) ih = fail z (axes_stop fits opens k n t 600 z e) (axes_stop unlimited unlimited k n t 600 z i)
       go (limits x) ih =
           limits (moved x [] refl
-          (then_short (length x.after) (read_axis unlimited unlimited n t) _ x.further (λ a r. elim r [
-            | [] ↦ omega arith
-            | b ∷ r1 ↦ then_short (length (b ∷ r1)) (read_axes unlimited unlimited k n (b ∷ r1)) _ (axes_short k n (b ∷ r1)) (λ c s. omega arith)
-          ]))
+          (then_short (length x.after) (read_axis unlimited unlimited n t) (axes_rest k n) x.further (rest_short k n (axes_short k n)))
           (λ m y q. axes_stop fits opens k m _ x.number _ (x.stops m y q)))
       go (agree a [] e i s v f) ih = agree (only a) [] (axes_end fits opens k n t a e) (axes_end unlimited unlimited k n t a i) s v refl
       go (agree a (b ∷ r) e i s v f) ih = on (ih (b ∷ r) (omega (arith, ap length s, length-append (spell_axis a) (b ∷ r))))
@@ -531,11 +544,15 @@ module _ (fits : ℕ → Bool) (opens : ℕ → Bool) (small : (d : ℕ) → d <
   unfolding spell_range RangeOk upper_spelled
   range-joins = number_joins (λ z u. refl) (λ z u v w. (v, w)) upper_first (pos 0) zero_ok (number_after_lem (bytes ")\n(range ")).all
 
+  pub range_parts : (c : Range) → RangeOk c → (z u : ℤ) × (range z u ≡ c) × NumberOk z × NumberOk u
+  unfolding RangeOk
+  range_parts (range z u) v = (z, u, refl, v.0, v.1)
+
   range_exact : Exactly spell_range RangeOk (read_range fits opens) (read_range unlimited unlimited) Any
   unfolding read_range RangeOk
   range_exact =
       pair_exact range-joins (number_after_lem (bytes ")\n(range ")) upper_exact
-      (λ c. elim c [ range z u ↦ λ v. (z, u, refl, v.0, v.1) ]) (λ a b z f. tt)
+      range_parts (λ a b z f. tt)
 
   plain_range : Range
   plain_range = range (pos 0) (pos 0)
@@ -576,8 +593,12 @@ module _ (fits : ℕ → Bool) (opens : ℕ → Bool) (small : (d : ℕ) → d <
   unfolding spell_sheet ValidSheet
   sheet-joins = any_joins (λ h axs. refl) (λ h axs v w. (v, w)) (λ h axs t f. f) plain_axes plain_axes_ok heading_exact.all
 
+  pub sheet_parts : (c : Sheet) → SheetOk c → (h : Heading) × (axs : Axes) × (sheet h axs ≡ c) × HeadingOk h × AxesOk axs 8
+  unfolding ValidSheet
+  sheet_parts (sheet h axs) v = (h, axs, refl, v.0, v.1)
+
   pub sheet_exact : Exactly spell_sheet SheetOk (read_sheet fits opens) (read_sheet unlimited unlimited) Last
   unfolding read_sheet ValidSheet
   sheet_exact =
       pair_exact sheet-joins heading_exact axes_exact
-      (λ c. elim c [ sheet h axs ↦ λ v. (h, axs, refl, v.0, v.1) ]) (λ a b z f. f)
+      sheet_parts (λ a b z f. f)
