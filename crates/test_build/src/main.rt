@@ -4,6 +4,8 @@
 #![tactic(auto)]
 
 use rules::{BuildAnswer, SplineConfig};
+use std::io;
+use std::io::Read;
 use test_common::seen;
 use test_common::seen::Seen;
 use test_given::Lists;
@@ -48,20 +50,21 @@ fn asked(
 }
 
 // (After a part of an array was lent, only a parameter's type tells the prover its length again.)
-fn judged(seen: Seen, answer: BuildAnswer, buffer: &[f64; 16416]) -> Seen {
-    let seen = test_given::answered(seen, answer);
-    seen::cells(seen, buffer, read::count())
+fn judged<R: Read>(reader: &mut R, seen: Seen, answer: BuildAnswer, buffer: &[f64; 16416]) -> Seen {
+    let seen = test_given::answered(reader, seen, answer);
+    let written = read::count(reader);
+    seen::cells(reader, seen, buffer, written)
 }
 
 // There is room for a buffer of 16400 cells.
-fn call(seen: Seen) -> Seen {
-    let config = test_given::next_config();
-    let points = read::count();
-    let axes = read::count();
-    let lists = test_given::next_lists();
-    let lent = read::least(read::count(), 16400);
+fn call<R: Read>(reader: &mut R, seen: Seen) -> Seen {
+    let config = test_given::next_config(reader);
+    let points = read::count(reader);
+    let axes = read::count(reader);
+    let lists = test_given::next_lists(reader);
+    let lent = read::least(read::count(reader), 16400);
     let mut numbers = [0.0; 2400];
-    read::floats(&mut numbers, lists.past);
+    read::floats(reader, &mut numbers, lists.past);
     let mut buffer = [0.0; 16416];
     seen::fill(&mut buffer);
     let answer = asked(
@@ -72,30 +75,37 @@ fn call(seen: Seen) -> Seen {
         &numbers,
         &mut buffer[8..8 + lent],
     );
-    judged(seen, answer, &buffer)
+    judged(reader, seen, answer, &buffer)
 }
 
-fn next(seen: Seen, name: Name) -> Seen {
+fn next<R: Read, P: Print>(
+    reader: &mut R,
+    printer: &P,
+    seen: Seen,
+    name: Name,
+) -> io::Result<Seen> {
     if name.is_remark {
-        return seen;
+        return Ok(seen);
     }
-    seen::named(seen, call(seen), name)
+    seen::named(printer, seen, call(reader, seen), name)
 }
 
 // A proved loop has to end, and nothing says that the input does. So it ends at a number of lines that the input does
 // not reach.
-fn replay() -> Seen {
+fn replay<R: Read, P: Print>(reader: &mut R, printer: &P) -> io::Result<Seen> {
     let mut seen = seen::nothing();
     for _ in 0..100000u32 {
-        let name = read::next_name();
+        let name = read::next_name(reader);
         if name.length != 68 {
-            return seen::ended(seen, name);
+            return Ok(seen::ended(seen, name));
         }
-        seen = next(seen, name);
+        seen = next(reader, printer, seen, name)?;
     }
-    seen
+    Ok(seen)
 }
 
-fn main() {
-    seen::report(replay());
+fn main(rt: HostRuntime) -> io::Result<()> {
+    let mut reader = rt.stdin();
+    let seen = replay(&mut reader, &rt)?;
+    seen::report(&rt, seen)
 }

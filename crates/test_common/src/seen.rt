@@ -1,5 +1,6 @@
 // What was seen: expected answers are read and compared with what a call gave, and counted.
-use libc::STDOUT_FILENO;
+use std::io;
+use std::io::Read;
 use test_input::read::Name;
 use test_input::{bits, read};
 
@@ -50,27 +51,27 @@ pub fn answered(seen: Seen, number: u32, expected: usize) -> Seen {
 }
 
 // A call more, and the float that it answered, beside the next of a list.
-pub fn computed(seen: Seen, x: f64) -> Seen {
-    called(seen, !bits::same(x, read::cell()))
+pub fn computed<R: Read>(reader: &mut R, seen: Seen, x: f64) -> Seen {
+    called(seen, !bits::same(x, read::cell(reader)))
 }
 
 // A whole number beside the next field.
-pub fn whole(seen: Seen, n: usize) -> Seen {
-    compared(seen, true, n != read::count())
+pub fn whole<R: Read>(reader: &mut R, seen: Seen, n: usize) -> Seen {
+    compared(seen, true, n != read::count(reader))
 }
 
 // A whole number beside the next of a list, one that is not below 0, and any.
-pub fn natural(seen: Seen, n: usize) -> Seen {
-    compared(seen, true, n != read::natural())
+pub fn natural<R: Read>(reader: &mut R, seen: Seen, n: usize) -> Seen {
+    compared(seen, true, n != read::natural(reader))
 }
 
-pub fn integer(seen: Seen, z: i64) -> Seen {
-    compared(seen, true, z != read::integer())
+pub fn integer<R: Read>(reader: &mut R, seen: Seen, z: i64) -> Seen {
+    compared(seen, true, z != read::integer(reader))
 }
 
 // A float beside the next field.
-pub fn float(seen: Seen, x: f64) -> Seen {
-    compared(seen, true, !bits::same(x, read::float()))
+pub fn float<R: Read>(reader: &mut R, seen: Seen, x: f64) -> Seen {
+    compared(seen, true, !bits::same(x, read::float(reader)))
 }
 
 // What the cells of a buffer hold before a call: no two are alike, and none is likely to be written.
@@ -92,21 +93,21 @@ fn is_written(i: usize, written: usize) -> bool {
     i - 8 < written
 }
 
-fn wanted(is_written: bool, before: f64) -> f64 {
+fn wanted<R: Read>(reader: &mut R, is_written: bool, before: f64) -> f64 {
     if is_written {
-        return read::cell();
+        return read::cell(reader);
     }
     before
 }
 
 // The array that a buffer is lent of from the ninth cell on, beside the next list of so many floats. All other cells have
 // to be as they were.
-pub fn cells(seen: Seen, cells: &[f64], written: usize) -> Seen {
+pub fn cells<R: Read>(reader: &mut R, seen: Seen, cells: &[f64], written: usize) -> Seen {
     let mut seen = seen;
     let mut before = FIRST;
     for i in 0..cells.len() {
         let is_written = is_written(i, written);
-        let unlike = !bits::same(cells[i], wanted(is_written, before));
+        let unlike = !bits::same(cells[i], wanted(reader, is_written, before));
         seen = compared(seen, is_written, unlike);
         before = before + 1.0;
     }
@@ -114,13 +115,13 @@ pub fn cells(seen: Seen, cells: &[f64], written: usize) -> Seen {
 }
 
 // Prints a name if something was unlike under it.
-pub fn named(before: Seen, seen: Seen, name: Name) -> Seen {
+pub fn named<P: Print>(printer: &P, before: Seen, seen: Seen, name: Name) -> io::Result<Seen> {
     if seen.unlike != before.unlike {
         let text = name.text;
-        io::write_all(STDOUT_FILENO, b"not as expected: ");
-        io::write_all(STDOUT_FILENO, &text);
+        printer.write_all(b"not as expected: ")?;
+        printer.write_all(&text)?;
     }
-    seen
+    Ok(seen)
 }
 
 // The input ends where a name would start.
@@ -129,11 +130,6 @@ pub fn ended(seen: Seen, name: Name) -> Seen {
 }
 
 // A program's last line.
-pub fn report(seen: Seen) {
-    io::print_decimal(STDOUT_FILENO, seen.calls);
-    io::write_all(STDOUT_FILENO, b" calls, ");
-    io::print_decimal(STDOUT_FILENO, seen.numbers);
-    io::write_all(STDOUT_FILENO, b" numbers, ");
-    io::print_decimal(STDOUT_FILENO, seen.unlike);
-    io::write_all(STDOUT_FILENO, b" unlike\n");
+pub fn report<P: Print>(printer: &P, seen: Seen) -> io::Result<()> {
+    println!(printer; "{} calls, {} numbers, {} unlike", seen.calls, seen.numbers, seen.unlike)
 }

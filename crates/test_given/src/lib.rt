@@ -5,15 +5,16 @@
 ghost use Rattle.std.specs.Prelude.{◌≤◌};
 
 use rules::{BoundaryState, BuildAnswer, OutOfRangeMode, PathParam, SplineConfig};
+use std::io::Read;
 use test_common::seen;
 use test_common::seen::Seen;
 use test_input::read;
 
 // Kinds: 0 none, 1 given, 2 given per unit of s.
-fn next_state() -> BoundaryState {
-    let kind = read::count();
-    let rows = read::count();
-    let columns = read::count();
+fn next_state<R: Read>(reader: &mut R) -> BoundaryState {
+    let kind = read::count(reader);
+    let rows = read::count(reader);
+    let columns = read::count(reader);
     if kind == 0 {
         return BoundaryState::None;
     }
@@ -24,14 +25,14 @@ fn next_state() -> BoundaryState {
     }
 }
 
-pub fn next_config() -> SplineConfig {
+pub fn next_config<R: Read>(reader: &mut R) -> SplineConfig {
     SplineConfig {
-        order: read::count(),
-        s_min: PathParam(read::float()),
-        s_max: PathParam(read::float()),
-        out_of_range_mode: read::mode(),
-        start_state: next_state(),
-        end_state: next_state(),
+        order: read::count(reader),
+        s_min: PathParam(read::float(reader)),
+        s_max: PathParam(read::float(reader)),
+        out_of_range_mode: read::mode(reader),
+        start_state: next_state(reader),
+        end_state: next_state(reader),
     }
 }
 
@@ -45,10 +46,10 @@ pub struct Lists {
 }
 
 // There is room for 2336 waypoints and for 32 numbers of a state. What is more is cut off.
-pub fn next_lists() -> Lists {
-    let start = read::least(read::count(), 2336);
-    let end = start + read::least(read::count(), 32);
-    let past = end + read::least(read::count(), 32);
+pub fn next_lists<R: Read>(reader: &mut R) -> Lists {
+    let start = read::least(read::count(reader), 2336);
+    let end = start + read::least(read::count(reader), 32);
+    let past = end + read::least(read::count(reader), 32);
     Lists { start, end, past }
 }
 
@@ -70,15 +71,15 @@ fn mode_number(mode: OutOfRangeMode) -> usize {
 }
 
 // A call more, its number and its record.
-pub fn answered(seen: Seen, answer: BuildAnswer) -> Seen {
+pub fn answered<R: Read>(reader: &mut R, seen: Seen, answer: BuildAnswer) -> Seen {
     let path = answer.path;
     let mode = path.mode;
-    let seen = seen::answered(seen, answer.number, read::count());
-    let seen = seen::whole(seen, path.order);
-    let seen = seen::whole(seen, path.segments);
-    let seen = seen::whole(seen, path.axes);
-    let seen = seen::float(seen, path.s_min.0);
-    let seen = seen::float(seen, path.s_max.0);
-    let seen = seen::float(seen, path.inv_ds);
-    seen::whole(seen, mode_number(mode))
+    let seen = seen::answered(seen, answer.number, read::count(reader));
+    let seen = seen::whole(reader, seen, path.order);
+    let seen = seen::whole(reader, seen, path.segments);
+    let seen = seen::whole(reader, seen, path.axes);
+    let seen = seen::float(reader, seen, path.s_min.0);
+    let seen = seen::float(reader, seen, path.s_max.0);
+    let seen = seen::float(reader, seen, path.inv_ds);
+    seen::whole(reader, seen, mode_number(mode))
 }

@@ -1,9 +1,9 @@
-// Calls and expected answers, read from a reader, which is standard input in the programs, as pieces of fixed width. A line of 67 characters is a call's
-// name, or a remark, which starts with '#'. A line of 33 characters is a field: what it is, in at most 13, and a number
-// at the right end: a whole one in decimal, or a float by the 16 hexadecimal digits of its bits. A list of floats has
-// 16 such digits for each, and behind it one character more, a space or a line's end; a small number has 3 decimal
-// digits, and one character more; an integer has 20 characters, its decimal digits at the right end with the
-// minus before them, and one character more.
+// Calls and expected answers, read as pieces of fixed width from a reader: from standard input, in the programs. A line
+// of 67 characters is a call's name, or a remark, which starts with '#'. A line of 33 characters is a field: what it is,
+// in at most 13, and a number at the right end: a whole one in decimal, or a float by the 16 hexadecimal digits of its
+// bits. A list of floats has 16 such digits for each, and behind it one character more, a space or a line's end; a small
+// number has 3 decimal digits, and one character more; an integer has 20 characters, its decimal digits at the right end
+// with the minus before them, and one character more.
 ghost use Rattle.std.specs.Prelude.{◌≤◌, length};
 
 use crate::bits;

@@ -4,6 +4,8 @@
 #![tactic(auto)]
 
 use rules::MasterAnswer;
+use std::io;
+use std::io::Read;
 use test_common::seen;
 use test_common::seen::Seen;
 use test_input::read;
@@ -20,11 +22,11 @@ struct Lengths {
 }
 
 // There is room for 300 waypoints, 32 numbers of a state and 2100 of a table. What is more is cut off.
-fn next_lengths() -> Lengths {
-    let waypoints = read::least(read::count(), 300);
-    let start = read::least(read::count(), 32);
-    let end = read::least(read::count(), 32);
-    let table = read::least(read::count(), 2100);
+fn next_lengths<R: Read>(reader: &mut R) -> Lengths {
+    let waypoints = read::least(read::count(reader), 300);
+    let start = read::least(read::count(reader), 32);
+    let end = read::least(read::count(reader), 32);
+    let table = read::least(read::count(reader), 2100);
     Lengths {
         waypoints,
         start,
@@ -59,9 +61,15 @@ fn check(order: usize, n: Lengths, numbers: &[i64]) -> u32 {
 }
 
 // A change: a place among the numbers, what stands there for this one check, and the answer.
-fn changed(seen: Seen, order: usize, n: Lengths, numbers: &mut [i64]) -> Seen {
-    let place = read::natural();
-    let there = read::integer();
+fn changed<R: Read>(
+    reader: &mut R,
+    seen: Seen,
+    order: usize,
+    n: Lengths,
+    numbers: &mut [i64],
+) -> Seen {
+    let place = read::natural(reader);
+    let there = read::integer(reader);
     if numbers.len() <= place {
         return seen::answered(seen, 0, 1);
     }
@@ -69,48 +77,63 @@ fn changed(seen: Seen, order: usize, n: Lengths, numbers: &mut [i64]) -> Seen {
     numbers[place] = there;
     let answer = check(order, n, numbers);
     numbers[place] = before;
-    seen::answered(seen, answer, read::natural())
+    seen::answered(seen, answer, read::natural(reader))
 }
 
-fn changes(seen: Seen, order: usize, n: Lengths, count: usize, numbers: &mut [i64]) -> Seen {
+fn changes<R: Read>(
+    reader: &mut R,
+    seen: Seen,
+    order: usize,
+    n: Lengths,
+    count: usize,
+    numbers: &mut [i64],
+) -> Seen {
     let mut seen = seen;
     for _ in 0..count {
-        seen = changed(seen, order, n, numbers);
+        seen = changed(reader, seen, order, n, numbers);
     }
     seen
 }
 
-fn set(seen: Seen) -> Seen {
-    let order = read::count();
-    let n = next_lengths();
+fn set<R: Read>(reader: &mut R, seen: Seen) -> Seen {
+    let order = read::count(reader);
+    let n = next_lengths(reader);
     let mut numbers = [0i64; 2464];
-    read::integers(&mut numbers, n.all);
+    read::integers(reader, &mut numbers, n.all);
     let answer = check(order, n, &numbers);
-    let seen = seen::answered(seen, answer, read::count());
-    changes(seen, order, n, read::count(), &mut numbers)
+    let seen = seen::answered(seen, answer, read::count(reader));
+    let count = read::count(reader);
+    changes(reader, seen, order, n, count, &mut numbers)
 }
 
-fn next(seen: Seen, name: Name) -> Seen {
+fn next<R: Read, P: Print>(
+    reader: &mut R,
+    printer: &P,
+    seen: Seen,
+    name: Name,
+) -> io::Result<Seen> {
     if name.is_remark {
-        return seen;
+        return Ok(seen);
     }
-    seen::named(seen, set(seen), name)
+    seen::named(printer, seen, set(reader, seen), name)
 }
 
 // A proved loop has to end, and nothing says that the input does. So it ends at a number of lines that the input does
 // not reach.
-fn replay() -> Seen {
+fn replay<R: Read, P: Print>(reader: &mut R, printer: &P) -> io::Result<Seen> {
     let mut seen = seen::nothing();
     for _ in 0..100000u32 {
-        let name = read::next_name();
+        let name = read::next_name(reader);
         if name.length != 68 {
-            return seen::ended(seen, name);
+            return Ok(seen::ended(seen, name));
         }
-        seen = next(seen, name);
+        seen = next(reader, printer, seen, name)?;
     }
-    seen
+    Ok(seen)
 }
 
-fn main() {
-    seen::report(replay());
+fn main(rt: HostRuntime) -> io::Result<()> {
+    let mut reader = rt.stdin();
+    let seen = replay(&mut reader, &rt)?;
+    seen::report(&rt, seen)
 }

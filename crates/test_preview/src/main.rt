@@ -4,6 +4,8 @@
 #![tactic(auto)]
 
 use rules::{BuildAnswer, SplineConfig};
+use std::io;
+use std::io::Read;
 use test_common::seen;
 use test_common::seen::Seen;
 use test_given::Lists;
@@ -35,39 +37,46 @@ fn asked(
 }
 
 // The cells are a number, and may be as many as no buffer has.
-fn call(seen: Seen) -> Seen {
-    let config = test_given::next_config();
-    let points = read::count();
-    let axes = read::count();
-    let lists = test_given::next_lists();
-    let cells = read::count();
+fn call<R: Read>(reader: &mut R, seen: Seen) -> Seen {
+    let config = test_given::next_config(reader);
+    let points = read::count(reader);
+    let axes = read::count(reader);
+    let lists = test_given::next_lists(reader);
+    let cells = read::count(reader);
     let mut numbers = [0.0; 2400];
-    read::floats(&mut numbers, lists.past);
+    read::floats(reader, &mut numbers, lists.past);
     let answer = asked(config, points, axes, lists, &numbers, cells);
-    test_given::answered(seen, answer)
+    test_given::answered(reader, seen, answer)
 }
 
-fn next(seen: Seen, name: Name) -> Seen {
+fn next<R: Read, P: Print>(
+    reader: &mut R,
+    printer: &P,
+    seen: Seen,
+    name: Name,
+) -> io::Result<Seen> {
     if name.is_remark {
-        return seen;
+        return Ok(seen);
     }
-    seen::named(seen, call(seen), name)
+    seen::named(printer, seen, call(reader, seen), name)
 }
 
 // A proved loop has to end, and nothing says that the input does. So it ends at a number of lines that the input does
 // not reach.
-fn replay() -> Seen {
+fn replay<R: Read, P: Print>(reader: &mut R, printer: &P) -> io::Result<Seen> {
     let mut seen = seen::nothing();
     for _ in 0..100000u32 {
-        let name = read::next_name();
+        let name = read::next_name(reader);
         if name.length != 68 {
-            return seen::ended(seen, name);
+            return Ok(seen::ended(seen, name));
         }
-        seen = next(seen, name);
+        seen = next(reader, printer, seen, name)?;
     }
-    seen
+    Ok(seen)
 }
 
-fn main() {
-    seen::report(replay());
+fn main(rt: HostRuntime) -> io::Result<()> {
+    let mut reader = rt.stdin();
+    let seen = replay(&mut reader, &rt)?;
+    seen::report(&rt, seen)
 }

@@ -8,20 +8,22 @@ ghost use Rattle.std.specs.Prelude.{◌≡◌, length};
 mod table;
 
 use rules::{PathParam, PathRecord};
+use std::io;
+use std::io::Read;
 use test_common::seen;
 use test_common::seen::Seen;
 use test_input::read;
 use test_input::read::Name;
 
-fn next_path() -> PathRecord {
+fn next_path<R: Read>(reader: &mut R) -> PathRecord {
     PathRecord {
-        order: read::count(),
-        segments: read::count(),
-        axes: read::count(),
-        s_min: PathParam(read::float()),
-        s_max: PathParam(read::float()),
-        inv_ds: read::float(),
-        mode: read::mode(),
+        order: read::count(reader),
+        segments: read::count(reader),
+        axes: read::count(reader),
+        s_min: PathParam(read::float(reader)),
+        s_max: PathParam(read::float(reader)),
+        inv_ds: read::float(reader),
+        mode: read::mode(reader),
     }
 }
 
@@ -43,20 +45,20 @@ struct Query {
     dddq_written: usize,
 }
 
-fn next_query() -> Query {
+fn next_query<R: Read>(reader: &mut R) -> Query {
     Query {
-        s: PathParam(read::cell()),
-        entry: read::small(),
-        level: (read::small() % 256) as u8,
-        q: read::small(),
-        dq: read::small(),
-        ddq: read::small(),
-        dddq: read::small(),
-        number: read::small(),
-        q_written: read::small(),
-        dq_written: read::small(),
-        ddq_written: read::small(),
-        dddq_written: read::small(),
+        s: PathParam(read::cell(reader)),
+        entry: read::small(reader),
+        level: (read::small(reader) % 256) as u8,
+        q: read::small(reader),
+        dq: read::small(reader),
+        ddq: read::small(reader),
+        dddq: read::small(reader),
+        number: read::small(reader),
+        q_written: read::small(reader),
+        dq_written: read::small(reader),
+        ddq_written: read::small(reader),
+        dddq_written: read::small(reader),
     }
 }
 
@@ -79,7 +81,8 @@ fn asked(
 }
 
 // (After a part of an array was lent, only a parameter's type tells the prover its length again.)
-fn judged(
+fn judged<R: Read>(
+    reader: &mut R,
     seen: Seen,
     c: Query,
     number: u32,
@@ -89,10 +92,10 @@ fn judged(
     dddq: &[f64; 32],
 ) -> Seen {
     let seen = seen::answered(seen, number, c.number);
-    let seen = seen::cells(seen, q, c.q_written);
-    let seen = seen::cells(seen, dq, c.dq_written);
-    let seen = seen::cells(seen, ddq, c.ddq_written);
-    seen::cells(seen, dddq, c.dddq_written)
+    let seen = seen::cells(reader, seen, q, c.q_written);
+    let seen = seen::cells(reader, seen, dq, c.dq_written);
+    let seen = seen::cells(reader, seen, ddq, c.ddq_written);
+    seen::cells(reader, seen, dddq, c.dddq_written)
 }
 
 fn filled() -> [f64; 32]
@@ -104,8 +107,8 @@ fn filled() -> [f64; 32]
 }
 
 // There is room for 16 cells in each buffer. What is more is cut off.
-fn call(seen: Seen, path: PathRecord, coeffs: &[f64]) -> Seen {
-    let c = next_query();
+fn call<R: Read>(reader: &mut R, seen: Seen, path: PathRecord, coeffs: &[f64]) -> Seen {
+    let c = next_query(reader);
     let mut q = filled();
     let mut dq = q;
     let mut ddq = q;
@@ -122,49 +125,57 @@ fn call(seen: Seen, path: PathRecord, coeffs: &[f64]) -> Seen {
         &mut ddq[8..8 + read::least(c.ddq, 16)],
         &mut dddq[8..8 + read::least(c.dddq, 16)],
     );
-    judged(seen, c, number, &q, &dq, &ddq, &dddq)
+    judged(reader, seen, c, number, &q, &dq, &ddq, &dddq)
 }
 
-fn calls(seen: Seen, path: PathRecord, coeffs: &[f64], n: usize) -> Seen {
+fn calls<R: Read>(reader: &mut R, seen: Seen, path: PathRecord, coeffs: &[f64], n: usize) -> Seen {
     let mut seen = seen;
     for _ in 0..n {
-        seen = call(seen, path, coeffs);
+        seen = call(reader, seen, path, coeffs);
     }
     seen
 }
 
 // There is room for 16400 coefficients. What is more is cut off.
-fn along(seen: Seen) -> Seen {
-    let path = next_path();
-    let n = read::least(read::count(), 16400);
-    let kind = read::count();
-    let seed = read::count();
+fn along<R: Read>(reader: &mut R, seen: Seen) -> Seen {
+    let path = next_path(reader);
+    let n = read::least(read::count(reader), 16400);
+    let kind = read::count(reader);
+    let seed = read::count(reader);
     let mut table = [0.0; 16400];
-    table::fill(&mut table, n, kind, seed);
-    calls(seen, path, &table[0..n], read::count())
+    table::fill(reader, &mut table, n, kind, seed);
+    let count = read::count(reader);
+    calls(reader, seen, path, &table[0..n], count)
 }
 
-fn next(seen: Seen, name: Name) -> Seen {
+fn next<R: Read, P: Print>(
+    reader: &mut R,
+    printer: &P,
+    seen: Seen,
+    name: Name,
+) -> io::Result<Seen> {
     if name.is_remark {
-        return seen;
+        return Ok(seen);
     }
-    seen::named(seen, along(seen), name)
+    seen::named(printer, seen, along(reader, seen), name)
 }
 
 // A proved loop has to end, and nothing says that the input does. So it ends at a number of lines that the input does
 // not reach.
-fn replay() -> Seen {
+fn replay<R: Read, P: Print>(reader: &mut R, printer: &P) -> io::Result<Seen> {
     let mut seen = seen::nothing();
     for _ in 0..100000u32 {
-        let name = read::next_name();
+        let name = read::next_name(reader);
         if name.length != 68 {
-            return seen::ended(seen, name);
+            return Ok(seen::ended(seen, name));
         }
-        seen = next(seen, name);
+        seen = next(reader, printer, seen, name)?;
     }
-    seen
+    Ok(seen)
 }
 
-fn main() {
-    seen::report(replay());
+fn main(rt: HostRuntime) -> io::Result<()> {
+    let mut reader = rt.stdin();
+    let seen = replay(&mut reader, &rt)?;
+    seen::report(&rt, seen)
 }

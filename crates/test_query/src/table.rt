@@ -3,6 +3,7 @@
 // a coefficient.
 ghost use Rattle.std.specs.Prelude.{◌<◌};
 
+use std::io::Read;
 use test_input::{bits, read};
 
 fn next(x: u64) -> u64
@@ -42,20 +43,20 @@ fn special(digits: u64) -> f64 {
 }
 
 // Kind 3 has whole numbers within 20. Of kind 5 they stand in the input.
-fn coefficient(kind: usize, digits: u64) -> f64 {
+fn coefficient<R: Read>(reader: &mut R, kind: usize, digits: u64) -> f64 {
     match kind {
         3 => std::num::nearest_u64_to_f64(digits % 41) - 20.0,
         4 => special(digits),
-        5 => read::cell(),
+        5 => read::cell(reader),
         _ => ordinary(kind, digits),
     }
 }
 
-pub fn fill(table: &mut [f64], n: usize, kind: usize, seed: usize) {
+pub fn fill<R: Read>(reader: &mut R, table: &mut [f64], n: usize, kind: usize, seed: usize) {
     let mut x = seed as u64;
     for i in 0..read::least(n, table.len()) {
         let high = next(x);
         x = next(high);
-        table[i] = coefficient(kind, high * 0x8000_0000 + x);
+        table[i] = coefficient(reader, kind, high * 0x8000_0000 + x);
     }
 }

@@ -3,8 +3,9 @@
 // is written. Prints the names of sheets that were answered otherwise, and how many calls there were.
 #![tactic(auto)]
 
-use libc::STDIN_FILENO;
 use rules::{SheetAnswer, SheetPrinted};
+use std::io;
+use std::io::Read;
 use test_common::seen;
 use test_common::seen::Seen;
 use test_input::read;
@@ -23,9 +24,9 @@ fn built(sheet: &[u8], cells: &mut [f64], lent: usize) -> SheetAnswer {
 }
 
 // So many bytes of the input, put at the start of a list: how many there is room for.
-fn next_bytes(list: &mut [u8], n: usize) -> usize {
+fn next_bytes<R: Read>(reader: &mut R, list: &mut [u8], n: usize) -> usize {
     let room = read::least(n, list.len());
-    io::read_full(STDIN_FILENO, &mut list[0..room]);
+    read::full(reader, &mut list[0..room]);
     room
 }
 
@@ -58,64 +59,87 @@ fn prints(seen: Seen, sheet: &[u8], output: &[u8]) -> Seen {
     prints_into(seen, sheet, output, &mut coeffs, &mut out)
 }
 
-fn reads(seen: Seen, sheet: &[u8]) -> Seen {
+fn reads<R: Read>(reader: &mut R, seen: Seen, sheet: &[u8]) -> Seen {
     let place = sheet::read_place(sheet);
-    seen::whole(seen::answered(seen, place.number, read::count()), place.at)
+    let seen = seen::answered(seen, place.number, read::count(reader));
+    seen::whole(reader, seen, place.at)
 }
 
 // A build, with as many cells lent as the input says.
-fn builds(seen: Seen, sheet: &[u8]) -> Seen {
+fn builds<R: Read>(reader: &mut R, seen: Seen, sheet: &[u8]) -> Seen {
     let mut cells = [0.0; 16392];
     seen::fill(&mut cells);
-    let answer = built(sheet, &mut cells, read::count());
-    let seen = seen::whole(
-        seen::answered(seen, answer.number, read::count()),
-        answer.at,
-    );
-    seen::cells(seen, &cells, read::count())
+    let answer = built(sheet, &mut cells, read::count(reader));
+    let seen = seen::answered(seen, answer.number, read::count(reader));
+    let seen = seen::whole(reader, seen, answer.at);
+    let written = read::count(reader);
+    seen::cells(reader, seen, &cells, written)
 }
 
 // A sheet and its output that stand at the start of two lists.
-fn serves(seen: Seen, sheet: &[u8], length: usize, output: &[u8], count: usize) -> Seen {
+fn serves<R: Read>(
+    reader: &mut R,
+    seen: Seen,
+    sheet: &[u8],
+    length: usize,
+    output: &[u8],
+    count: usize,
+) -> Seen {
     let text = &sheet[0..read::least(length, sheet.len())];
     let seen = prints(seen, text, &output[0..read::least(count, output.len())]);
-    builds(builds(reads(seen, text), text), text)
+    let seen = reads(reader, seen, text);
+    let seen = builds(reader, seen, text);
+    builds(reader, seen, text)
 }
 
-fn trial_in(seen: Seen, sheet: &mut [u8; 32769], output: &mut [u8; 302240]) -> Seen {
-    let length = next_bytes(sheet, read::count());
-    let count = next_bytes(output, read::count());
-    serves(seen, sheet, length, output, count)
+fn trial_in<R: Read>(
+    reader: &mut R,
+    seen: Seen,
+    sheet: &mut [u8; 32769],
+    output: &mut [u8; 302240],
+) -> Seen {
+    let n = read::count(reader);
+    let length = next_bytes(reader, sheet, n);
+    let n = read::count(reader);
+    let count = next_bytes(reader, output, n);
+    serves(reader, seen, sheet, length, output, count)
 }
 
 // There is room for a text that is too long by one byte, and for the longest output.
-fn trial(seen: Seen) -> Seen {
+fn trial<R: Read>(reader: &mut R, seen: Seen) -> Seen {
     let mut sheet = [0; 32769];
     let mut output = [0; 302240];
-    trial_in(seen, &mut sheet, &mut output)
+    trial_in(reader, seen, &mut sheet, &mut output)
 }
 
-fn next(seen: Seen, name: Name) -> Seen {
+fn next<R: Read, P: Print>(
+    reader: &mut R,
+    printer: &P,
+    seen: Seen,
+    name: Name,
+) -> io::Result<Seen> {
     if name.is_remark {
-        return seen;
+        return Ok(seen);
     }
-    seen::named(seen, trial(seen), name)
+    seen::named(printer, seen, trial(reader, seen), name)
 }
 
 // A proved loop has to end, and nothing says that the input does. So it ends at a number of lines that the input does
 // not reach.
-fn replay() -> Seen {
+fn replay<R: Read, P: Print>(reader: &mut R, printer: &P) -> io::Result<Seen> {
     let mut seen = seen::nothing();
     for _ in 0..100000u32 {
-        let name = read::next_name();
+        let name = read::next_name(reader);
         if name.length != 68 {
-            return seen::ended(seen, name);
+            return Ok(seen::ended(seen, name));
         }
-        seen = next(seen, name);
+        seen = next(reader, printer, seen, name)?;
     }
-    seen
+    Ok(seen)
 }
 
-fn main() {
-    seen::report(replay());
+fn main(rt: HostRuntime) -> io::Result<()> {
+    let mut reader = rt.stdin();
+    let seen = replay(&mut reader, &rt)?;
+    seen::report(&rt, seen)
 }
