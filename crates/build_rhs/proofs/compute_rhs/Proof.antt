@@ -1,3 +1,4 @@
+-- turned
 -- `build_rhs::compute_rhs` meets its contract: after k turns the first k cells hold the definition's. Assumes nothing.
 -- the number of row k
 use mathlib.Core.Path.{◌≡◌, sym, ap, ap₂, ◌∙◌}
@@ -25,18 +26,18 @@ reads r before after k h =
     (read r (k * 2) (omega arith) ∙ ap (λ (at : ℕ). r ! at) (sym (add-zero (k * 2))))
     (read r (k * 2 + 1) h)
 
-abbrev invariant-loop : tie.invariant-loop
+abbrev invariant-loop : tie.invariant-loop-k
 invariant-loop m r dy-prev dy-next out₀ k₀ out k = (out ≡ filled k (side r dy-prev dy-next) out₀) × (k ≤ m) × (length out ≡ m)
 
-abbrev decreases-loop : tie.decreases-loop
+abbrev decreases-loop : tie.decreases-loop-k
 decreases-loop m r dy-prev dy-next out₀ k₀ out k = m - k
 
-loop-holds : tie.Need-loop-init invariant-loop decreases-loop
+loop-holds : tie.Need-loop-k-init invariant-loop decreases-loop
 loop-holds c = (sym (filled_none _ _), search rules, search rules)
 
-loop-again : tie.Need-loop-preserved invariant-loop decreases-loop
+loop-again : tie.Need-loop-k-preserved invariant-loop decreases-loop
 loop-again c =
-    let at = c.before.before.before.loop in
+    let at = c.before.before.before.loop-k in
     let args = c.before.before.before.before.args in
     let out₀ : List Float = args.out.now in
     let f : ℕ → Float = side args.r.now args.dy_prev args.dy_next in (
@@ -47,12 +48,12 @@ loop-again c =
 
 returns : tie.Need-returns invariant-loop decreases-loop
 returns c =
-    let at = c.before.loop in
+    let at = c.before.loop-k in
     let all : at.k ≡ c.before.before.args.m = omega arith in
     at.invariant.0 ∙ rw all (filled_all _ _ _ (omega arith))
 
-pub compute-rhs-spec : {M : Type 1} → statement M
-compute-rhs-spec =
+pub compute_rhs_spec : {M : Type 1} → statement M
+compute_rhs_spec =
     tie.close
     (tie.spec
     invariant-loop

@@ -1,3 +1,4 @@
+-- turned
 -- `build_rhs::dy` meets its contract. An axis has places at each of its waypoints, so i fits. Assumes nothing.
 -- a waypoint's number is at most its place, and the waypoint before it has a lower place
 use mathlib.Core.Path.{◌≡◌}
@@ -17,7 +18,7 @@ earlier i axes axis n h l =
     positive : axis < axes → 1 ≤ axes
     positive h = omega arith
 
-add-waypoint : tie.Need-overflow-add-waypoint
+add-waypoint : tie.Need-overflow_add-i
 add-waypoint c =
     let start = c.before in
     omega (arith, (earlier start.args.i start.args.axes start.args.axis _ start.requires.0 start.requires.1).0)
@@ -31,7 +32,7 @@ waypoint-requires-2 c κs =
     (earlier start.args.i start.args.axes start.args.axis _ start.requires.0 start.requires.1).1
 
 returns : tie.Need-returns
-returns c = rw (← add-one, c.before.waypoint.ensures, c.waypoint2.ensures)
+returns c = rw (← add-one, c.before.waypoint.ensures, c.waypoint-2.ensures)
 
-pub dy-spec : {M : Type 1} → statement M
-dy-spec = tie.close (tie.spec add-waypoint waypoint-requires waypoint-requires-2 returns)
+pub dy_spec : {M : Type 1} → statement M
+dy_spec = tie.close (tie.spec add-waypoint waypoint-requires waypoint-requires-2 returns)

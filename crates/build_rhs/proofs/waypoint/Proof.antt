@@ -1,3 +1,4 @@
+-- turned
 -- `build_rhs::waypoint` meets its contract. Assumes nothing.
 use Prim.Native.Nat.{◌+◌, ◌*◌}
 use Rattle.rules.proofs.Cells.{read}
@@ -10,6 +11,6 @@ returns c =
     let args = c.before.args in
     read args.waypoints.now (args.p * args.axes + args.axis) c.before.requires
 
-pub waypoint-spec : {M : Type 1} → statement M
-waypoint-spec =
+pub waypoint_spec : {M : Type 1} → statement M
+waypoint_spec =
     tie.close (tie.spec (λ c. search rules) (λ c. search rules) (λ c. search rules) (λ c. search rules) returns)
