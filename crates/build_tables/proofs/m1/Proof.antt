@@ -1,3 +1,4 @@
+-- turned
 -- `build_tables::m1` meets its contract: antt computes both sides of each table. Assumes nothing.
 use mathlib.Core.Path.{refl}
 use lib.Ieee.{neg, of_bits, of_int}
@@ -18,5 +19,5 @@ returns c = record {
   h = record { is = refl; sized = refl };
 }
 
-pub m1-spec : {M : Type 1} → statement M
-m1-spec = tie.close (tie.spec returns)
+pub m1_spec : {M : Type 1} → statement M
+m1_spec = tie.close (tie.spec returns)

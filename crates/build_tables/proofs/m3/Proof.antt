@@ -1,3 +1,4 @@
+-- turned
 -- `build_tables::m3` meets its contract: antt computes both sides of each table. Assumes nothing.
 use mathlib.Core.Path.{refl}
 use lib.Ieee.{neg, of_bits, of_int}
@@ -18,5 +19,5 @@ returns c = record {
   h = record { is = refl; sized = refl };
 }
 
-pub m3-spec : {M : Type 1} → statement M
-m3-spec = tie.close (tie.spec returns)
+pub m3_spec : {M : Type 1} → statement M
+m3_spec = tie.close (tie.spec returns)
