@@ -1,3 +1,4 @@
+-- turned
 -- Assumes nothing.
 use Prim.Native.Nat.{◌+◌, ◌-◌, ◌*◌, ◌^◌}
 use native.Mathlib.Omega.{arith}
@@ -8,16 +9,16 @@ use Rattle.fused_near.proofs.biased.Tie as tie
 
 returns : tie.Need-returns
 returns c =
-    let d = c.before.before.difference in
-    let s = c.before.before.before.sum in
+    let d = c.before.before.difference-d in
+    let s = c.before.before.before.sum-s in
     let a = c.before.before.before.before.args in
     let p = (2 ^ 51 + a.ph) * 2 ^ 64 + a.pl in
     let b = a.ch * 2 ^ 64 + a.cl in
-    picked a.like s.result.high s.result.low d.result.high d.result.low (p + b) (p - b) c.before.pick.result c.pick2.result
-    c.before.pick.ensures c.pick2.ensures s.ensures.0 d.ensures.0 s.ensures.1 d.ensures.1
+    picked a.like s.result.high s.result.low d.result.high d.result.low (p + b) (p - b) c.before.pick.result c.pick-2.result
+    c.before.pick.ensures c.pick-2.ensures s.ensures.0 d.ensures.0 s.ensures.1 d.ensures.1
 
-pub biased-spec : {M : Type 1} → statement M
-biased-spec =
+pub biased_spec : {M : Type 1} → statement M
+biased_spec =
     tie.close
     (tie.spec
     (λ c. search rules)

@@ -1,3 +1,4 @@
+-- turned
 -- Assumes nothing.
 use mathlib.Core.Path.{refl}
 use native.Mathlib.Omega.{arith}
@@ -5,8 +6,8 @@ use borrow.Author.Rules.{rules}
 use Rattle.fused_near.proofs.excess.Statement.{statement}
 use Rattle.fused_near.proofs.excess.Tie as tie
 
-returns-2 : tie.Need-returns-2
+returns-2 : tie.Need-returns-else-above-lt63
 returns-2 c = refl
 
-pub excess-spec : {M : Type 1} → statement M
-excess-spec = tie.close (tie.spec (λ c. search rules) (λ c. omega (arith, c.if1.true)) returns-2)
+pub excess_spec : {M : Type 1} → statement M
+excess_spec = tie.close (tie.spec (λ c. search rules) (λ c. omega (arith, c.if-above-lt63.true)) returns-2)

@@ -1,3 +1,4 @@
+-- turned
 -- Assumes nothing.
 use borrow.Author.Rules.{rules}
 use Rattle.fused_near.proofs.Convert.{lifted_is}
@@ -7,5 +8,5 @@ use Rattle.fused_near.proofs.lifted.Tie as tie
 returns : tie.Need-returns
 returns c = lifted_is c.args.m c.args.n c.requires
 
-pub lifted-spec : {M : Type 1} → statement M
-lifted-spec = tie.close (tie.spec (λ c. search rules) (λ c. search rules) (λ c. search rules) returns)
+pub lifted_spec : {M : Type 1} → statement M
+lifted_spec = tie.close (tie.spec (λ c. search rules) (λ c. search rules) (λ c. search rules) returns)
