@@ -1,3 +1,4 @@
+-- turned
 -- Assumes nothing.
 use mathlib.Core.Path.{◌∙◌}
 use Prim.Native.Nat.{ℕ, ◌+◌, ◌-◌, ◌*◌, ◌^◌, ◌≤◌, ◌<◌}
@@ -24,7 +25,7 @@ module _ (c : tie.Start) where
   front : (2 ^ 63 ≤ c.args.high * 2 ^ zeros) × (c.args.high * 2 ^ zeros < 2 ^ 64)
   front = normalized c.args.high c.requires.0 c.ranges.high.fits
 
-add-w : tie.Need-overflow-add-w
+add-w : tie.Need-overflow_add-w
 add-w c = Fits-bits 64 tt (word_lt c.args.high c.args.low (zeros c) (few c) (front c).1 c.ranges.low.fits)
 
 rounded-requires : tie.Need-rounded-requires
@@ -47,8 +48,8 @@ returns c v x p t =
     (sticky_again v (2 ^ (64 - z)) x (h * 2 ^ 64 + l) m.result p (pow_pos (64 - z)) t y)
     ∙ leading_round s.args.negative s.args.e z v x (few s) p
 
-pub leading-spec : {M : Type 1} → statement M
-leading-spec =
+pub leading_spec : {M : Type 1} → statement M
+leading_spec =
     tie.close
     (tie.spec
     (λ c. omega (arith, few c))

@@ -1,3 +1,4 @@
+-- turned
 -- Assumes nothing.
 use borrow.Author.Rules.{rules}
 use Rattle.fused_pack.proofs.Round.{nearest_is}
@@ -7,5 +8,5 @@ use Rattle.fused_pack.proofs.nearest.Tie as tie
 returns : tie.Need-returns
 returns c = nearest_is c.args.w
 
-pub nearest-spec : {M : Type 1} → statement M
-nearest-spec = tie.close (tie.spec (λ c. search rules) (λ c. search rules) (λ c. search rules) returns)
+pub nearest_spec : {M : Type 1} → statement M
+nearest_spec = tie.close (tie.spec (λ c. search rules) (λ c. search rules) (λ c. search rules) returns)
