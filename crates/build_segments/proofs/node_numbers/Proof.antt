@@ -1,3 +1,4 @@
+-- turned
 -- `build_segments::node_numbers` meets its contract. Assumes nothing.
 use mathlib.Core.Path.{sym, ◌∙◌}
 use Prim.Native.Nat.{◌-◌, ◌*◌}
@@ -11,44 +12,44 @@ use borrow.Author.Rules.{rules}
 use Rattle.build_segments.proofs.node_numbers.Statement.{statement}
 use Rattle.build_segments.proofs.node_numbers.Tie as tie
 
-returns : tie.Need-returns
+returns : tie.Need-returns-then-i-eq0
 unfolding node_part
-returns c = rw (c.before.if1.true, sub-zero)
+returns c = rw (c.before.if-i-eq0.true, sub-zero)
 
-returns-2 : tie.Need-returns-2
+returns-2 : tie.Need-returns-then-n-i
 returns-2 c =
     let args = c.before.before.before.args in
     part_size args.m args.m args.boundary.now
     ∙ sym (last_part args.m args.n args.boundary.now args.solved.now args.i (search rules))
 
-mul_at : tie.Need-overflow-mul-at
+mul_at : tie.Need-overflow_mul-at
 mul_at c =
     let args = c.before.before.args in
     omega (arith, part_inside args.m {i = args.i - 1} {n = args.n} (omega arith))
 
-add-result-2 : tie.Need-overflow-add-result-2
+add-result-2 : tie.Need-overflow_add-result-2
 add-result-2 c =
     let args = c.before.before.args in
     omega (arith, part_inside args.m {i = args.i - 1} {n = args.n} (omega arith))
 
-mul-result-2 : tie.Need-overflow-mul-result-2
+mul-result-2 : tie.Need-offset_bounds-solved-at
 mul-result-2 c =
     let args = c.before.before.args in
     omega (arith, part_inside args.m {i = args.i - 1} {n = args.n} (omega arith))
 
-part-result-end-3 : tie.Need-slice-bounds-result-end-3
+part-result-end-3 : tie.Need-slice_bounds-result-end-2
 part-result-end-3 c =
     let args = c.before.before.args in
     omega (arith, part_inside args.m {i = args.i - 1} {n = args.n} (omega arith))
 
-returns-3 : tie.Need-returns-3
+returns-3 : tie.Need-returns
 returns-3 c =
     let args = c.before.before.before.args in
     part_size ((args.i - 1) * args.m) args.m args.solved.now
     ∙ sym (inner_part args.m args.n args.boundary.now args.solved.now args.i (omega arith) (omega arith))
 
-pub node-numbers-spec : {M : Type 1} → statement M
-node-numbers-spec =
+pub node_numbers_spec : {M : Type 1} → statement M
+node_numbers_spec =
     tie.close
     (tie.spec
     (λ c. search rules)

@@ -1,3 +1,4 @@
+-- turned
 -- `build_segments::write_segment_coeffs` meets its contract. Assumes nothing.
 use Prim.Native.Nat.{◌+◌}
 use native.Mathlib.Omega.{arith}
@@ -10,22 +11,22 @@ use borrow.Author.Rules.{rules}
 use Rattle.build_segments.proofs.write_segment_coeffs.Statement.{statement}
 use Rattle.build_segments.proofs.write_segment_coeffs.Tie as tie
 
-part-copy-end : tie.Need-slice-bounds-copy-end
+part-copy-end : tie.Need-slice_bounds-copy-end
 part-copy-end c =
     let args = c.before.before.before.before.args in
     omega (arith, length-set args.out.now 0 args.y)
 
-part-upper-coeffs-end : tie.Need-slice-bounds-upper-coeffs-end
+part-upper-coeffs-end : tie.Need-slice_bounds-upper_coeffs-end
 part-upper-coeffs-end c =
     let args = c.before.before.before.before.before.before.before.before.args in
     omega (arith, length-set args.out.now 0 args.y)
 
-upper-coeffs-requires : tie.Need-upper-coeffs-requires
+upper-coeffs-requires : tie.Need-upper_coeffs-requires
 upper-coeffs-requires c κs =
     let pre = c.before.before.before.before.before.before.before.before.before.requires in
     (pre.0, pre.1, pre.2, pre.3, search rules)
 
-same_length : tie.Need-same-length
+same_length : tie.Need-shape_of-out
 same_length c =
     let args = c.before.before.before.before.before.before.before.before.before.before.before.before.args in
     omega (arith, length-set args.out.now 0 args.y)
@@ -40,8 +41,8 @@ returns c =
     (assembled args.m args.y args.out.now args.u0.now upper
     start.requires.4 start.requires.2 (length-listed (args.m + 1) _))
 
-pub write-segment-coeffs-spec : {M : Type 1} → statement M
-write-segment-coeffs-spec =
+pub write_segment_coeffs_spec : {M : Type 1} → statement M
+write_segment_coeffs_spec =
     tie.close
     (tie.spec
     (λ c. search rules)
