@@ -1,3 +1,4 @@
+-- turned
 -- `sheet_digits::digits` meets its contract. The loop's invariant: the digits that are counted and those of what is left are all. Assumes nothing.
 use mathlib.Core.Path.{◌≡◌}
 use Prim.Native.Nat.{◌+◌, ◌≤◌}
@@ -8,17 +9,17 @@ use Rattle.sheet_digits.proofs.Decimal.{length_tenth, length_digit}
 use Rattle.sheet_digits.proofs.digits.Statement.{statement}
 use Rattle.sheet_digits.proofs.digits.Tie as tie
 
-abbrev invariant-loop : tie.invariant-loop
+abbrev invariant-loop : tie.invariant-loop-rest
 invariant-loop n count₀ rest₀ count rest = (count + length (natural rest) ≡ length (natural n) + 1) × (count + rest ≤ n + 1)
 
-abbrev decreases-loop : tie.decreases-loop
+abbrev decreases-loop : tie.decreases-loop-rest
 decreases-loop n count₀ rest₀ count rest = rest
 
-loop-again : tie.Need-loop-preserved invariant-loop decreases-loop
-loop-again c = (omega (arith, length_tenth c.before.loop.rest c.loop-test.true), omega arith)
+loop-again : tie.Need-loop-rest-preserved invariant-loop decreases-loop
+loop-again c = (omega (arith, length_tenth c.before.loop-rest.rest c.loop-rest-test.true), omega arith)
 
 returns : tie.Need-returns invariant-loop decreases-loop
-returns c = omega (arith, length_digit c.before.loop.rest (omega arith))
+returns c = omega (arith, length_digit c.before.loop-rest.rest (omega arith))
 
-pub digits-spec : {M : Type 1} → statement M
-digits-spec = tie.close (tie.spec invariant-loop decreases-loop (λ c. omega arith) (λ c. omega arith) (λ c. omega arith) loop-again returns)
+pub digits_spec : {M : Type 1} → statement M
+digits_spec = tie.close (tie.spec invariant-loop decreases-loop (λ c. omega arith) (λ c. omega arith) (λ c. omega arith) loop-again returns)
