@@ -1,3 +1,4 @@
+-- turned
 -- `sheet_puts::push` meets its contract. Assumes nothing.
 use mathlib.Core.Path.{ap, ◌∙◌}
 use native.Mathlib.Omega.{arith}
@@ -8,15 +9,15 @@ use borrow.Author.Rules.{rules}
 use Rattle.sheet_puts.proofs.push.Statement.{statement}
 use Rattle.sheet_puts.proofs.push.Tie as tie
 
-returns : tie.Need-returns
+returns : tie.Need-returns-then-at-out
 returns c = (
   omega arith,
   ap (λ x. set c.before.args.out.now c.before.args.at x) (to_z-of_z c.before.ranges.z)
-      ∙ put_one c.before.args.out.now c.before.args.at c.before.args.z c.if1.true,
+      ∙ put_one c.before.args.out.now c.before.args.at c.before.args.z c.if-at-out.true,
 )
 
-returns-2 : tie.Need-returns-2
-returns-2 c = (omega arith, put_full c.before.args.out.now c.before.args.at c.before.args.z c.if1.false c.before.requires)
+returns-2 : tie.Need-returns
+returns-2 c = (omega arith, put_full c.before.args.out.now c.before.args.at c.before.args.z c.if-at-out.false c.before.requires)
 
 pub push_spec : {M : Type 1} → statement M
 push_spec = tie.close (tie.spec (λ c. search rules) (λ c. search rules) (λ c. search rules) (λ c. search rules) returns returns-2)
