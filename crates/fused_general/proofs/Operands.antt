@@ -2,7 +2,7 @@
 use mathlib.Core.Path.{◌≡◌, sym, ap, ◌∙◌, subst}
 use Prim.Native.Nat.{ℕ, ◌*◌, ◌%◌, ◌^◌, ◌<◌}
 use native.Mathlib.Nat.{zero-mul, mul-zero, mul-pos}
-use mathlib.Core.Bool.{Bool, true, false, not}
+use mathlib.Core.Bool.{Bool, true, false}
 use lib.Dec.{T, leb}
 use lib.Pow.{pow_pos}
 use lib.Ieee.{Float, binary64, add, mul, fits, ones, top, to_bits}
@@ -20,13 +20,11 @@ pub held : {b : Bool} → b ≡ true → T b
 held h = subst T (sym h) tt
 
 -- what a call of `finite`, and a test of its answer, show
-pub was_finite : (x : Float) (r : Bool) → r ≡ finite x → not r ≡ false → finite x ≡ true
-was_finite x true e h = sym e
-was_finite x false e h = sym e ∙ sym h
+pub was_finite : (x : Float) (r : Bool) → r ≡ finite x → r ≡ true → finite x ≡ true
+was_finite x r e h = sym e ∙ h
 
-pub was_infinite : (x : Float) (r : Bool) → r ≡ finite x → not r ≡ true → finite x ≡ false
-was_infinite x true e h = sym e ∙ sym h
-was_infinite x false e h = sym e
+pub was_infinite : (x : Float) (r : Bool) → r ≡ finite x → r ≡ false → finite x ≡ false
+was_infinite x r e h = sym e ∙ h
 
 pub field_lt : (x : Float) → T (fits binary64 x) → finite x ≡ true → field (to_bits binary64 x) < ones binary64
 field_lt x fit fine = finite_field binary64 (to_bits binary64 x) (held (ap finite (of_bits-to_bits binary64 x fit) ∙ fine))

@@ -1,3 +1,4 @@
+-- turned
 -- Assumes nothing.
 use Rattle.law_rounding.proofs.Values.{finite_test}
 use Rattle.fused_general.proofs.finite.Statement.{statement}
@@ -6,5 +7,5 @@ use Rattle.fused_general.proofs.finite.Tie as tie
 returns : tie.Need-returns
 returns c = finite_test c.args.x
 
-pub finite-spec : {M : Type 1} → statement M
-finite-spec = tie.close (tie.spec returns)
+pub finite_spec : {M : Type 1} → statement M
+finite_spec = tie.close (tie.spec returns)

@@ -1,3 +1,4 @@
+-- turned
 -- Assumes nothing.
 use mathlib.Core.Path.{◌∙◌}
 use mathlib.Core.Bool.{Bool}
@@ -11,29 +12,29 @@ use Rattle.fused_general.proofs.of_bits.Statement.{statement}
 use Rattle.fused_general.proofs.of_bits.Tie as tie
 
 -- behind the product: the three operands unpacked, and where all began
-module _ (p : tie.After-product) where
-  abbrev first : tie.After-unpacked
+module _ (p : tie.After-product-p) where
+  abbrev first : tie.After-unpacked-a
   first = p.before.before.before
 
-  abbrev second : tie.After-unpacked2
+  abbrev second : tie.After-unpacked-b
   second = p.before.before
 
-  abbrev third : tie.After-unpacked3
+  abbrev third : tie.After-unpacked-c
   third = p.before
 
   abbrev start : tie.Start
   start = first.before
 
   abbrev product : ℕ
-  product = p.product.result.high * 2 ^ 64 + p.product.result.low
+  product = p.product-p.result.high * 2 ^ 64 + p.product-p.result.low
 
-rounded-sum-requires : tie.Need-rounded-sum-requires
+rounded-sum-requires : tie.Need-rounded_sum-requires
 rounded-sum-requires c κs =
     let p = c.before.before.before.before in
-    let u = (first p).unpacked.ensures in
-    let v = (second p).unpacked2.ensures in
-    let w = (third p).unpacked3.ensures in
-    (product_placed (product p) p.product.ensures u v, addend_placed w, omega (arith, u.small, v.small), omega (arith, w.small))
+    let u = (first p).unpacked-a.ensures in
+    let v = (second p).unpacked-b.ensures in
+    let w = (third p).unpacked-c.ensures in
+    (product_placed (product p) p.product-p.ensures u v, addend_placed w, omega (arith, u.small, v.small), omega (arith, w.small))
 
 returns : tie.Need-returns
 returns c =
@@ -41,11 +42,11 @@ returns c =
     let a = (start p).args in
     let negative : ℕ → Bool = leb (top binary64) in
     c.rounded_sum.ensures
-    ∙ magnitudes (unlike (negative a.x) (negative a.y)) (negative a.z) (product p) p.product.ensures
-    (first p).unpacked.ensures (second p).unpacked2.ensures (third p).unpacked3.ensures
+    ∙ magnitudes (unlike (negative a.x) (negative a.y)) (negative a.z) (product p) p.product-p.ensures
+    (first p).unpacked-a.ensures (second p).unpacked-b.ensures (third p).unpacked-c.ensures
 
-pub of-bits-spec : {M : Type 1} → statement M
-of-bits-spec =
+pub of_bits_spec : {M : Type 1} → statement M
+of_bits_spec =
     tie.close
     (tie.spec
     (λ c κs. search rules)

@@ -1,3 +1,4 @@
+-- turned
 -- Each way out is a law of proofs/Operands.antt. Assumes nothing.
 use mathlib.Core.Path.{◌≡◌, sym, ◌∙◌}
 use Prim.Native.Nat.{ℕ, ◌<◌}
@@ -25,54 +26,54 @@ module _ (s : tie.Start) where
   c = s.args.c
 
   a-fits : T (fits binary64 a)
-  a-fits = held s.good.0.1
+  a-fits = held s.well_formed.0.1
 
   b-fits : T (fits binary64 b)
-  b-fits = held s.good.1.0.1
+  b-fits = held s.well_formed.1.0.1
 
   c-fits : T (fits binary64 c)
-  c-fits = held s.good.1.1.0.1
+  c-fits = held s.well_formed.1.1.0.1
 
   a-field : field (to_bits binary64 a) < ones binary64
-  a-field = field_lt a a-fits s.pre.0
+  a-field = field_lt a a-fits s.requires.0
 
   b-field : field (to_bits binary64 b) < ones binary64
-  b-field = field_lt b b-fits s.pre.1
+  b-field = field_lt b b-fits s.requires.1
 
   c-field : field (to_bits binary64 c) < ones binary64
-  c-field = field_lt c c-fits s.pre.2
+  c-field = field_lt c c-fits s.requires.2
 
-returns : tie.Need-returns
-returns k = let s = k.before in zero_first (a s) (b s) (c s) (a-fits s) (b-fits s) (c-fits s) s.requires.0 s.requires.1 s.requires.2 k.if1.true
+returns : tie.Need-returns-then-x-eq0
+returns k = let s = k.before in zero_first (a s) (b s) (c s) (a-fits s) (b-fits s) (c-fits s) s.requires.0 s.requires.1 s.requires.2 k.if-x-eq0.true
 
-returns-2 : tie.Need-returns-2
+returns-2 : tie.Need-returns-then-y-eq0
 returns-2 k =
     let s = k.before.before in
-    zero_second (a s) (b s) (c s) (a-fits s) (b-fits s) (c-fits s) s.requires.0 s.requires.1 s.requires.2 k.if2.true
+    zero_second (a s) (b s) (c s) (a-fits s) (b-fits s) (c-fits s) s.requires.0 s.requires.1 s.requires.2 k.if-y-eq0.true
 
-returns-3 : tie.Need-returns-3
+returns-3 : tie.Need-returns-then-z-eq0
 returns-3 k =
     let s = k.before.before.before in
     zero_third (a s) (b s) (c s) (a-fits s) (b-fits s) (c-fits s) s.requires.0 s.requires.1 s.requires.2
-    (positive k.before.before.if1.false) (positive k.before.if2.false) k.if3.true
+    (positive k.before.before.if-x-eq0.false) (positive k.before.if-y-eq0.false) k.if-z-eq0.true
 
-of-bits-requires : tie.Need-of-bits-requires
+of-bits-requires : tie.Need-of_bits-requires
 of-bits-requires k κs =
     let s = k.before.before.before in
-    ((a-field s, positive k.before.before.if1.false), (b-field s, positive k.before.if2.false), (c-field s, positive k.if3.false))
+    ((a-field s, positive k.before.before.if-x-eq0.false), (b-field s, positive k.before.if-y-eq0.false), (c-field s, positive k.if-z-eq0.false))
 
-returns-4 : tie.Need-returns-4
+returns-4 : tie.Need-returns
 returns-4 k =
     let s = k.before.before.before.before in
     k.of_bits.ensures ∙ sym (by_bits (a s) (b s) (c s) (a-fits s) (b-fits s) (c-fits s) (a-field s) (b-field s) (c-field s))
 
-pub of-finite-spec : {M : Type 1} → statement M
-of-finite-spec =
+pub of_finite_spec : {M : Type 1} → statement M
+of_finite_spec =
     tie.close
     (tie.spec
-    (λ s. finite_no_nan (a s) s.pre.0)
-    (λ s. finite_no_nan (b s) s.pre.1)
-    (λ s. finite_no_nan (c s) s.pre.2)
+    (λ s. finite_no_nan (a s) s.requires.0)
+    (λ s. finite_no_nan (b s) s.requires.1)
+    (λ s. finite_no_nan (c s) s.requires.2)
     returns
     returns-2
     returns-3

@@ -1,3 +1,4 @@
+-- turned
 -- Assumes nothing.
 use Prim.Native.Nat.{ℕ, ◌%◌, ◌^◌, ◌≤◌, ◌<◌}
 use lib.Count.{count_leading_zeros}
@@ -8,12 +9,12 @@ use Rattle.fused_general.proofs.unpacked.Statement.{statement}
 use Rattle.fused_general.proofs.unpacked.Tie as tie
 
 -- where there is no leading digit: the digits below it, which are not all 0, and the zeros before them
-module _ (c : tie.Then1) where
+module _ (c : tie.Then-field-eq0) where
   abbrev low : ℕ
   low = c.before.args.bits % 2 ^ 52
 
   some : 0 < low
-  some = low_pos c.before.args.bits c.before.requires.1 c.if1.true
+  some = low_pos c.before.args.bits c.before.requires.1 c.if-field-eq0.true
 
   under : count_leading_zeros 64 low < 64
   under = zeros_under low some (low_lt c.before.args.bits)
@@ -21,14 +22,14 @@ module _ (c : tie.Then1) where
   over : 2 ≤ count_leading_zeros 64 low
   over = zeros_over low some (low_lt c.before.args.bits)
 
-returns : tie.Need-returns
-returns c = unpacked_low c.before.args.bits c.before.requires.1 c.if1.true
+returns : tie.Need-returns-then-field-eq0
+returns c = unpacked_low c.before.args.bits c.before.requires.1 c.if-field-eq0.true
 
-returns-2 : tie.Need-returns-2
-returns-2 c = unpacked_high c.before.args.bits c.before.requires.0 (omega (arith, c.if1.false))
+returns-2 : tie.Need-returns-else-field-eq0
+returns-2 c = unpacked_high c.before.args.bits c.before.requires.0 (omega (arith, c.if-field-eq0.false))
 
-pub unpacked-spec : {M : Type 1} → statement M
-unpacked-spec =
+pub unpacked_spec : {M : Type 1} → statement M
+unpacked_spec =
     tie.close
     (tie.spec
     (λ c. omega (arith, under c))
