@@ -1,3 +1,4 @@
+-- turned
 -- `build_sides::full_side` meets its contract: past the first node the part that is read is the previous solved right side. Assumes nothing.
 use mathlib.Core.Path.{ap, ap₂, ◌∙◌}
 use mathlib.Core.Bool.{cond}
@@ -22,22 +23,22 @@ use Rattle.build_sides.proofs.full_side.Tie as tie
 
 -- ---- places: the entry, and behind the three calls
 
-abbrev bounded : tie.After-previous → tie.After-bounded-side
+abbrev bounded : tie.After-previous-last → tie.After-bounded_side
 bounded c = c.before.before.before
 
-abbrev start : tie.After-previous → tie.Start
+abbrev start : tie.After-previous-last → tie.Start
 start c = (bounded c).before.before.before.before.before.before.before.before
 
-abbrev found : tie.After-subtract-where-arg2 → tie.After-previous
+abbrev found : tie.After-subtract_where-arg-2-1 → tie.After-previous-last
 found c = c.before.before
 
-subtract-where-requires : tie.Need-subtract-where-requires
+subtract-where-requires : tie.Need-subtract_where-requires
 subtract-where-requires c κs =
     let p = start (found c) in
     let m = p.args.plan.m in
-    let at = (found c).previous.result in
+    let at = (found c).previous-last.result in
     let solved = p.args.solved.now in
-    (p.pre.0.some, columns_long p.pre.0.holds_a, ap length (part_size at m solved) ∙ part_length at m solved (omega arith), omega arith)
+    (p.requires.0.some, columns_long p.requires.0.holds_a, ap length (part_size at m solved) ∙ part_length at m solved (omega arith), omega arith)
 
 returns : tie.Need-returns
 returns c =
@@ -54,12 +55,12 @@ returns c =
     λ w d e s.
     third.subtract_where.ensures
     ∙ ap₂ less ((bounded second).bounded_side.ensures w d e)
-    (part_size second.previous.result m solved ∙ ap (λ (k : ℕ). take m (drop k solved)) second.previous.ensures)
-    ∙ rw (columns_are p.pre.0.holds_a)
+    (part_size second.previous-last.result m solved ∙ ap (λ (k : ℕ). take m (drop k solved)) second.previous-last.ensures)
+    ∙ rw (columns_are p.requires.0.holds_a)
     (past_first m args.i (bounded_side m n w from to args.i) (A m) (part m solved (args.i - 1)) (solved_side m n w from to (args.i - 1)) s)
 
-pub full-side-spec : {M : Type 1} → statement M
-full-side-spec =
+pub full_side_spec : {M : Type 1} → statement M
+full_side_spec =
     tie.close
     (tie.spec
     (λ c κs. search rules)
