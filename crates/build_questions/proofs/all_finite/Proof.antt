@@ -1,3 +1,4 @@
+-- turned
 -- The loop's invariant: all the numbers are finite exactly where those from i on are. Assumes nothing.
 use mathlib.Core.Path.{◌≡◌, refl, ◌∙◌, sym}
 use Prim.Native.Nat.{◌-◌, ◌≤◌}
@@ -11,32 +12,32 @@ use Rattle.questions.proofs.Tests.{no, yes}
 use Rattle.build_questions.proofs.all_finite.Statement.{statement}
 use Rattle.build_questions.proofs.all_finite.Tie as tie
 
-abbrev invariant-loop : tie.invariant-loop
+abbrev invariant-loop : tie.invariant-loop-i
 invariant-loop numbers i₀ i = (i ≤ length numbers) × (all finite numbers ≡ all finite (drop i numbers))
 
-abbrev decreases-loop : tie.decreases-loop
+abbrev decreases-loop : tie.decreases-loop-i
 decreases-loop numbers i₀ i = length numbers - i
 
-loop-holds : tie.Need-loop-init invariant-loop decreases-loop
+loop-holds : tie.Need-loop-i-init invariant-loop decreases-loop
 loop-holds c = (omega arith, refl)
 
-returns : tie.Need-returns invariant-loop decreases-loop
+returns : tie.Need-returns-then-not-is_finite invariant-loop decreases-loop
 returns c =
     let w = c.before.before.before in
-    sym (w.before.loop.invariant.1 ∙ all_next finite _ _ _ w.loop-test.true (no c.before.is_finite.ensures c.if1.true))
+    sym (w.before.loop-i.invariant.1 ∙ all_next finite _ _ _ w.loop-i-test.true (no c.before.is_finite.ensures c.if-not-is_finite.true))
 
-loop-again : tie.Need-loop-preserved invariant-loop decreases-loop
+loop-again : tie.Need-loop-i-preserved invariant-loop decreases-loop
 loop-again c =
     let w = c.before.before.before in (
       omega arith,
-      w.before.loop.invariant.1 ∙ all_next finite _ _ _ w.loop-test.true (yes c.before.is_finite.ensures c.if1.false),
+      w.before.loop-i.invariant.1 ∙ all_next finite _ _ _ w.loop-i-test.true (yes c.before.is_finite.ensures c.if-not-is_finite.false),
     )
 
-returns-2 : tie.Need-returns-2 invariant-loop decreases-loop
-returns-2 c = sym (c.before.loop.invariant.1 ∙ all_none_left finite _ _ c.before.loop.invariant.0 c.loop-test.false)
+returns-2 : tie.Need-returns invariant-loop decreases-loop
+returns-2 c = sym (c.before.loop-i.invariant.1 ∙ all_none_left finite _ _ c.before.loop-i.invariant.0 c.loop-i-test.false)
 
-pub all-finite-spec : {M : Type 1} → statement M
-all-finite-spec =
+pub all_finite_spec : {M : Type 1} → statement M
+all_finite_spec =
     tie.close
     (tie.spec
     invariant-loop

@@ -1,3 +1,4 @@
+-- turned
 -- `past-k` says that the first k questions were answered with yes at a place behind them, so that the rest decides. Each way out is the next
 -- question's no, or a yes to all. Assumes nothing.
 use mathlib.Core.Path.{◌≡◌, sym, ◌∙◌}
@@ -21,19 +22,19 @@ use Rattle.build_questions.proofs.build_questions.Tie as tie
 
 -- a place behind the first five questions, and what was asked there
 abbrev Place : Type 0
-Place = tie.Else1
+Place = tie.Else-number-ne0
 
-abbrev start : tie.After-shape-questions → tie.Start
+abbrev start : tie.After-shape_questions-number → tie.Start
 start p = p.before.before.before.before.before.before
 
 -- the way back to it from behind the start's, the table's and the range's question
-abbrev behind-6 : tie.Else2 → Place
+abbrev behind-6 : tie.Else-not-valid_state → Place
 behind-6 c = c.before.before
 
-abbrev behind-8 : tie.Else4 → Place
+abbrev behind-8 : tie.Else-cells-axes → Place
 behind-8 c = behind-6 c.before.before.before
 
-abbrev behind-9 : tie.Else5 → Place
+abbrev behind-9 : tie.Else-not-valid_range → Place
 behind-9 c = behind-8 c.before.before
 
 abbrev asked : tie.Start → List Question
@@ -48,38 +49,38 @@ abbrev Past : ℕ → Place → Type 0
 Past k c = let p = start c.before in first_no (asked p) ≡ first_no (drop k (asked p))
 
 all_yes : (c : Place) → first_no (shape (start c.before)) ≡ 0
-all_yes c = sym c.before.shape_questions.ensures ∙ c.if1.false
+all_yes c = sym c.before.shape_questions-number.ensures ∙ c.if-number-ne0.false
 
 past-5 : (c : Place) → Past 5 c
 unfolding build_questions shape_questions size_questions
 past-5 c = let p = start c.before in first_yes (shape p) (drop 5 (asked p)) tt (all_yes c)
 
-past-6 : (c : tie.Else2) → Past 6 (behind-6 c)
+past-6 : (c : tie.Else-not-valid_state) → Past 6 (behind-6 c)
 unfolding build_questions
-past-6 c = past-5 (behind-6 c) ∙ yes_to _ _ (yes c.before.valid_state.ensures c.if2.false)
+past-6 c = past-5 (behind-6 c) ∙ yes_to _ _ (yes c.before.valid_state.ensures c.if-not-valid_state.false)
 
-past-7 : (c : tie.Else3) → Past 7 (behind-6 c.before.before)
+past-7 : (c : tie.Else-not-valid_state-2) → Past 7 (behind-6 c.before.before)
 unfolding build_questions
-past-7 c = past-6 c.before.before ∙ yes_to _ _ (yes c.before.valid-state2.ensures c.if3.false)
+past-7 c = past-6 c.before.before ∙ yes_to _ _ (yes c.before.valid_state-2.ensures c.if-not-valid_state-2.false)
 
-past-8 : (c : tie.Else4) → Past 8 (behind-8 c)
+past-8 : (c : tie.Else-cells-axes) → Past 8 (behind-8 c)
 unfolding build_questions
-past-8 c = past-7 c.before ∙ yes_to _ _ (eq-eqb _ _ c.if4.false)
+past-8 c = past-7 c.before ∙ yes_to _ _ (eq-eqb _ _ c.if-cells-axes.false)
 
-past-9 : (c : tie.Else5) → Past 9 (behind-9 c)
+past-9 : (c : tie.Else-not-valid_range) → Past 9 (behind-9 c)
 unfolding build_questions
-past-9 c = past-8 c.before.before ∙ yes_to _ _ (yes c.before.valid_range.ensures c.if5.false)
+past-9 c = past-8 c.before.before ∙ yes_to _ _ (yes c.before.valid_range.ensures c.if-not-valid_range.false)
 
-past-10 : (c : tie.Else8) → Past 10 (behind-9 c.before.before.before.before.before.before)
+past-10 : (c : tie.Else-not-finite_state-2) → Past 10 (behind-9 c.before.before.before.before.before.before)
 unfolding build_questions
 past-10 c =
     let e = c.before.before in
     let d = e.before.before in
     past-9 d.before.before
     ∙ yes_to _ _ (rw (
-      yes d.before.all_finite.ensures d.if6.false,
-      yes e.before.finite_state.ensures e.if7.false,
-      yes c.before.finite-state2.ensures c.if8.false,
+      yes d.before.all_finite.ensures d.if-not-all_finite.false,
+      yes e.before.finite_state.ensures e.if-not-finite_state.false,
+      yes c.before.finite_state-2.ensures c.if-not-finite_state-2.false,
     ))
 
 -- behind the first five questions the numbers are small
@@ -100,58 +101,58 @@ segments_bound c = let h = (small c).most in mul-le-mul {m₂ = 256} (small c).f
 table_bound : (c : Place) → let a = (start c.before).args in a.axes * (a.points - 1) * (a.config.order + 1) ≤ 8 * 256 * 8
 table_bound c = let h = order_bounds c in mul-le-mul {m₂ = 8} (segments_bound c) (omega arith)
 
-returns : tie.Need-returns
+returns : tie.Need-returns-then-number-ne0
 unfolding build_questions shape_questions size_questions
 returns c =
     let p = start c.before in
-    let answer = c.before.shape_questions.ensures in
-    answer ∙ sym (first_no_lem (shape p) (drop 5 (asked p)) (λ e. c.if1.true (answer ∙ e)))
+    let answer = c.before.shape_questions-number.ensures in
+    answer ∙ sym (first_no_lem (shape p) (drop 5 (asked p)) (λ e. c.if-number-ne0.true (answer ∙ e)))
 
-returns-2 : tie.Need-returns-2
+returns-2 : tie.Need-returns-then-not-valid_state
 unfolding build_questions
-returns-2 c = sym (past-5 c.before.before ∙ no_to _ (no c.before.valid_state.ensures c.if2.true))
+returns-2 c = sym (past-5 c.before.before ∙ no_to _ (no c.before.valid_state.ensures c.if-not-valid_state.true))
 
-returns-3 : tie.Need-returns-3
+returns-3 : tie.Need-returns-then-not-valid_state-2
 unfolding build_questions
-returns-3 c = sym (past-6 c.before.before ∙ no_to _ (no c.before.valid-state2.ensures c.if3.true))
+returns-3 c = sym (past-6 c.before.before ∙ no_to _ (no c.before.valid_state-2.ensures c.if-not-valid_state-2.true))
 
-returns-4 : tie.Need-returns-4
+returns-4 : tie.Need-returns-then-cells-axes
 unfolding build_questions
-returns-4 c = sym (past-7 c.before ∙ no_to _ (ne_eqb _ _ c.if4.true))
+returns-4 c = sym (past-7 c.before ∙ no_to _ (ne_eqb _ _ c.if-cells-axes.true))
 
-returns-5 : tie.Need-returns-5
+returns-5 : tie.Need-returns-then-not-valid_range
 unfolding build_questions
-returns-5 c = sym (past-8 c.before.before ∙ no_to _ (no c.before.valid_range.ensures c.if5.true))
+returns-5 c = sym (past-8 c.before.before ∙ no_to _ (no c.before.valid_range.ensures c.if-not-valid_range.true))
 
-returns-6 : tie.Need-returns-6
+returns-6 : tie.Need-returns-then-not-all_finite
 unfolding build_questions
-returns-6 c = sym (past-9 c.before.before ∙ no_to _ (rw (no c.before.all_finite.ensures c.if6.true)))
+returns-6 c = sym (past-9 c.before.before ∙ no_to _ (rw (no c.before.all_finite.ensures c.if-not-all_finite.true)))
 
-returns-7 : tie.Need-returns-7
+returns-7 : tie.Need-returns-then-not-finite_state
 unfolding build_questions
 returns-7 c =
     let d = c.before.before in
     sym (past-9 d.before.before
-    ∙ no_to _ (rw (yes d.before.all_finite.ensures d.if6.false, no c.before.finite_state.ensures c.if7.true)))
+    ∙ no_to _ (rw (yes d.before.all_finite.ensures d.if-not-all_finite.false, no c.before.finite_state.ensures c.if-not-finite_state.true)))
 
-returns-8 : tie.Need-returns-8
+returns-8 : tie.Need-returns-then-not-finite_state-2
 unfolding build_questions
 returns-8 c =
     let e = c.before.before in
     let d = e.before.before in
     sym (past-9 d.before.before
     ∙ no_to _ (rw (
-      yes d.before.all_finite.ensures d.if6.false,
-      yes e.before.finite_state.ensures e.if7.false,
-      no c.before.finite-state2.ensures c.if8.true,
+      yes d.before.all_finite.ensures d.if-not-all_finite.false,
+      yes e.before.finite_state.ensures e.if-not-finite_state.false,
+      no c.before.finite_state-2.ensures c.if-not-finite_state-2.true,
     )))
 
-returns-9 : tie.Need-returns-9
+returns-9 : tie.Need-returns
 unfolding build_questions first_no
 returns-9 c = sym (past-10 c)
 
-pub build-questions-spec : {M : Type 1} → statement M
-build-questions-spec =
+pub build_questions_spec : {M : Type 1} → statement M
+build_questions_spec =
     tie.close
     (tie.spec
     (λ c κs. search rules)

@@ -1,3 +1,4 @@
+-- turned
 -- Each way out is a case of the definition, by the state's variant and the tests passed. Assumes nothing.
 use mathlib.Core.Path.{◌≡◌}
 use mathlib.Core.Bool.{Bool, false}
@@ -30,32 +31,31 @@ module _ (axes m : ℕ) (s : BoundaryState) (numbers : List Float) {rows columns
   unfolding valid_state
   its-length h k = rw (e, eq-eqb rows axes h, eq-eqb columns m k)
 
-returns : tie.Need-returns
+returns : tie.Need-returns-then-rows-axes
 returns c =
-    let a = c.before.before.before.before.args in
-    other-rows a.axes a.m a.state a.numbers.now c.before.before.state.given.1 c.if1.true
+    let a = c.args in
+    other-rows a.axes a.m a.state a.numbers.now c.in-Given.is c.if-rows-axes.true
 
-returns-2 : tie.Need-returns-2
+returns-2 : tie.Need-returns-then-columns-m
 returns-2 c =
-    let a = c.before.before.before.before.before.args in
-    other-columns a.axes a.m a.state a.numbers.now c.before.before.before.state.given.1 c.before.if1.false c.if2.true
+    let a = c.args in
+    other-columns a.axes a.m a.state a.numbers.now c.in-Given.is c.before.if-rows-axes.false c.if-columns-m.true
 
-mul-result : tie.Need-overflow-mul-result
+mul-result : tie.Need-overflow_mul-result
 mul-result c =
-    let s = c.before.before.before.before.before in
-    let h = mul-le-mul s.requires.0 s.requires.1 in
+    let h = mul-le-mul c.requires.0 c.requires.1 in
     record { fits = omega arith }
 
-returns-3 : tie.Need-returns-3
+returns-3 : tie.Need-returns-in-None
 unfolding valid_state
-returns-3 c = simp c.enum_told.given.1
+returns-3 c = simp c.in-None.is
 
-returns-4 : tie.Need-returns-4
+returns-4 : tie.Need-returns-else-columns-m
 returns-4 c =
-    let a = c.before.before.before.before.before.args in
-    its-length a.axes a.m a.state a.numbers.now c.before.before.before.state.given.1 c.before.if1.false c.if2.false
+    let a = c.args in
+    its-length a.axes a.m a.state a.numbers.now c.in-Given.is c.before.if-rows-axes.false c.if-columns-m.false
 
-pub valid-state-spec : {M : Type 1} → statement M
-valid-state-spec =
+pub valid_state_spec : {M : Type 1} → statement M
+valid_state_spec =
     tie.close
     (tie.spec (λ c. search rules) (λ c. search rules) returns returns-2 mul-result returns-3 returns-4)
