@@ -1,3 +1,4 @@
+-- turned
 -- The loop's invariant: all the numbers are within ±2^40 exactly where those from i on are. Assumes nothing.
 use mathlib.Core.Path.{◌≡◌, refl, ◌∙◌, sym, ap}
 use Prim.Native.Nat.{◌-◌, ◌≤◌}
@@ -13,38 +14,38 @@ use Rattle.master_numbers.proofs.Signed.{as_read}
 use Rattle.master_numbers.proofs.range.all_within.Statement.{statement}
 use Rattle.master_numbers.proofs.range.all_within.Tie as tie
 
-abbrev invariant-loop : tie.invariant-loop
+abbrev invariant-loop : tie.invariant-loop-i
 invariant-loop numbers i₀ i = (i ≤ length numbers) × (all within numbers ≡ all within (drop i numbers))
 
-abbrev decreases-loop : tie.decreases-loop
+abbrev decreases-loop : tie.decreases-loop-i
 decreases-loop numbers i₀ i = length numbers - i
 
 -- a turn of the loop, from behind the answer
-abbrev turn : tie.After-is-within invariant-loop decreases-loop → tie.In-loop invariant-loop decreases-loop
+abbrev turn : tie.After-is_within invariant-loop decreases-loop → tie.In-loop-i invariant-loop decreases-loop
 turn c = c.before.before
 
 -- the number that was asked of is the one at i: what is read of it is what the list has there
-answer : (c : tie.After-is-within invariant-loop decreases-loop) → let p = (turn c).before in
-    c.is_Within.result ≡ within (get_or p.before.args.numbers.now p.loop.i (pos 0))
-answer c = c.is_Within.ensures ∙ ap within (as_read _ c.before.is-within-arg.given)
+answer : (c : tie.After-is_within invariant-loop decreases-loop) → let p = (turn c).before in
+    c.is_within.result ≡ within (get_or p.before.args.numbers.now p.loop-i.i (pos 0))
+answer c = c.is_within.ensures ∙ ap within (as_read _ c.before.is_within-arg-1.given)
 
-returns : tie.Need-returns invariant-loop decreases-loop
+returns : tie.Need-returns-then-not-is_within invariant-loop decreases-loop
 returns c =
     let w = turn c.before in
-    sym (w.before.loop.inv.1 ∙ all_next within _ _ _ w.loop-test.taken (no (answer c.before) c.if1.true))
+    sym (w.before.loop-i.invariant.1 ∙ all_next within _ _ _ w.loop-i-test.true (no (answer c.before) c.if-not-is_within.true))
 
-loop-again : tie.Need-loop-preserved invariant-loop decreases-loop
+loop-again : tie.Need-loop-i-preserved invariant-loop decreases-loop
 loop-again c =
     let w = turn c.before in (
       omega arith,
-      w.before.loop.inv.1 ∙ all_next within _ _ _ w.loop-test.taken (yes (answer c.before) c.if1.false),
+      w.before.loop-i.invariant.1 ∙ all_next within _ _ _ w.loop-i-test.true (yes (answer c.before) c.if-not-is_within.false),
     )
 
-returns-2 : tie.Need-returns-2 invariant-loop decreases-loop
-returns-2 c = sym (c.before.loop.invariant.1 ∙ all_none_left within _ _ c.before.loop.invariant.0 c.loop-test.false)
+returns-2 : tie.Need-returns invariant-loop decreases-loop
+returns-2 c = sym (c.before.loop-i.invariant.1 ∙ all_none_left within _ _ c.before.loop-i.invariant.0 c.loop-i-test.false)
 
-pub all-within-spec : {M : Type 1} → statement M
-all-within-spec =
+pub all_within_spec : {M : Type 1} → statement M
+all_within_spec =
     tie.close
     (tie.spec
     invariant-loop

@@ -1,3 +1,4 @@
+-- turned
 -- Below −2^40 nothing is within, and from there on the upper limit decides. Assumes nothing.
 use mathlib.Core.Path.{◌≡◌, refl, sym, ap, ◌∙◌, subst}
 use mathlib.Core.Bool.{true, false}
@@ -23,13 +24,13 @@ unfolding within
 not-too-low (pos a) e = refl
 not-too-low (negsuc a) e = let h = ltb-false 1099511627775 a e in sym (le-leb (suc a) 1099511627776 (omega arith))
 
-returns : tie.Need-returns
-returns c = too-low c.before.args.z (rw (to_z-of_z w64 _ c.before.ranges.z) at c.if1.true)
+returns : tie.Need-returns-then-z-ltminus1099511627776
+returns c = too-low c.before.args.z (rw (to_z-of_z w64 _ c.before.ranges.z) at c.if-z-ltminus1099511627776.true)
 
-returns-2 : tie.Need-returns-2
+returns-2 : tie.Need-returns
 returns-2 c =
     ap (λ (z : ℤ). le_z z (pos 1099511627776)) (to_z-of_z w64 _ c.before.ranges.z)
-    ∙ not-too-low c.before.args.z (rw (to_z-of_z w64 _ c.before.ranges.z) at c.if1.false)
+    ∙ not-too-low c.before.args.z (rw (to_z-of_z w64 _ c.before.ranges.z) at c.if-z-ltminus1099511627776.false)
 
-pub is-within-spec : {M : Type 1} → statement M
-is-within-spec = tie.close (tie.spec returns returns-2)
+pub is_within_spec : {M : Type 1} → statement M
+is_within_spec = tie.close (tie.spec returns returns-2)
