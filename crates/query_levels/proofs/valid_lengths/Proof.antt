@@ -1,38 +1,39 @@
+-- turned
 -- Each way out is the first buffer that does not fit, or the last one's answer. Assumes nothing.
 use borrow.Author.Rules.{rules}
 use Rattle.questions.proofs.Tests.{no, yes, both, last_decides}
 use Rattle.query_levels.proofs.valid_lengths.Statement.{statement}
 use Rattle.query_levels.proofs.valid_lengths.Tie as tie
 
-returns : tie.Need-returns
-returns c = simp (no c.before.valid_length.ensures c.if1.true)
+returns : tie.Need-returns-then-not-valid_length
+returns c = simp (no c.before.valid_length.ensures c.if-not-valid_length.true)
 
-returns-2 : tie.Need-returns-2
-returns-2 c = let d = c.before.before in simp (yes d.before.valid_length.ensures d.if1.false, no c.before.valid-length2.ensures c.if2.true)
+returns-2 : tie.Need-returns-then-not-valid_length-2
+returns-2 c = let d = c.before.before in simp (yes d.before.valid_length.ensures d.if-not-valid_length.false, no c.before.valid_length-2.ensures c.if-not-valid_length-2.true)
 
-returns-3 : tie.Need-returns-3
+returns-3 : tie.Need-returns-then-not-valid_length-3
 returns-3 c =
     let e = c.before.before in
     let d = e.before.before in
     simp (
-      yes d.before.valid_length.ensures d.if1.false,
-      yes e.before.valid-length2.ensures e.if2.false,
-      no c.before.valid-length3.ensures c.if3.true,
+      yes d.before.valid_length.ensures d.if-not-valid_length.false,
+      yes e.before.valid_length-2.ensures e.if-not-valid_length-2.false,
+      no c.before.valid_length-3.ensures c.if-not-valid_length-3.true,
     )
 
-returns-4 : tie.Need-returns-4
+returns-4 : tie.Need-returns
 returns-4 c =
     let f = c.before in
     let e = f.before.before in
     let d = e.before.before in
     last_decides
     (both
-    (both (yes d.before.valid_length.ensures d.if1.false) (yes e.before.valid-length2.ensures e.if2.false))
-    (yes f.before.valid-length3.ensures f.if3.false))
-    c.valid-length4.ensures
+    (both (yes d.before.valid_length.ensures d.if-not-valid_length.false) (yes e.before.valid_length-2.ensures e.if-not-valid_length-2.false))
+    (yes f.before.valid_length-3.ensures f.if-not-valid_length-3.false))
+    c.valid_length-4.ensures
 
-pub valid-lengths-spec : {M : Type 1} → statement M
-valid-lengths-spec =
+pub valid_lengths_spec : {M : Type 1} → statement M
+valid_lengths_spec =
     tie.close
     (tie.spec
     (λ c κs. search rules)
