@@ -1,3 +1,4 @@
+-- turned
 -- `query_loop::position` meets its contract. Assumes nothing.
 use mathlib.Core.Path.{refl}
 use lib.Ieee.{of_bits}
@@ -8,5 +9,5 @@ returns : tie.Need-returns
 unfolding of_bits
 returns c = refl
 
-pub position-spec : {M : Type 1} → statement M
-position-spec = tie.close (tie.spec returns)
+pub position_spec : {M : Type 1} → statement M
+position_spec = tie.close (tie.spec returns)

@@ -1,3 +1,4 @@
+-- turned
 -- `query_loop::up_to_second` meets its contract. Assumes nothing.
 use mathlib.Core.Path.{refl}
 use lib.Ieee.{of_bits}
@@ -8,5 +9,5 @@ returns : tie.Need-returns
 unfolding of_bits
 returns c = refl
 
-pub up-to-second-spec : {M : Type 1} → statement M
-up-to-second-spec = tie.close (tie.spec returns)
+pub up_to_second_spec : {M : Type 1} → statement M
+up_to_second_spec = tie.close (tie.spec returns)
