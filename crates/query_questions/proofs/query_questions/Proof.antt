@@ -1,3 +1,4 @@
+-- turned
 -- `past-k` says that the first k questions were answered with yes at a place behind them, so that the rest decides.
 -- Each way out is the next question's no, or a yes to all. Assumes nothing.
 use mathlib.Core.Path.{◌≡◌, sym, ap, ◌∙◌, subst}
@@ -22,16 +23,16 @@ use Rattle.query_questions.proofs.query_questions.Tie as tie
 
 -- a place behind the first call, and what was asked there
 abbrev Place : Type 0
-Place = tie.After-valid-order
+Place = tie.After-valid_order
 
 abbrev start : Place → tie.Start
 start p = p.before.before.before
 
 -- the way back to it from behind the fourth and the fifth question
-abbrev behind-4 : tie.Else5 → Place
+abbrev behind-4 : tie.Else-axes-gt8 → Place
 behind-4 c = c.before.before.before.before.before
 
-abbrev behind-5 : tie.Else7 → Place
+abbrev behind-5 : tie.Else-inv-inv_ds → Place
 behind-5 c = behind-4 c.before.before.before.before
 
 abbrev asked : Place → List Question
@@ -51,113 +52,113 @@ unequal : (x : Float) {y z : Float} → y ≡ z → ne x y ≡ true → eq x z �
 unfolding ne
 unequal x {y} e h = sym (ap (eq x) e) ∙ not-true (eq x y) h
 
-past-1 : (c : tie.Else1) → Past 1 c.before
+past-1 : (c : tie.Else-not-valid_order) → Past 1 c.before
 unfolding path_questions buffer_questions
-past-1 c = yes_to _ _ (yes c.before.valid_order.ensures c.if1.false)
+past-1 c = yes_to _ _ (yes c.before.valid_order.ensures c.if-not-valid_order.false)
 
-past-2 : (c : tie.Else2) → Past 2 c.before.before
+past-2 : (c : tie.Else-segments-lt1) → Past 2 c.before.before
 unfolding path_questions buffer_questions
-past-2 c = past-1 c.before ∙ yes_to _ _ (le-leb 1 _ c.if2.false)
+past-2 c = past-1 c.before ∙ yes_to _ _ (le-leb 1 _ c.if-segments-lt1.false)
 
-past-3 : (c : tie.Else3) → Past 3 c.before.before.before
+past-3 : (c : tie.Else-segments-gt256) → Past 3 c.before.before.before
 unfolding path_questions buffer_questions
-past-3 c = past-2 c.before ∙ yes_to _ _ (le-leb _ 256 c.if3.false)
+past-3 c = past-2 c.before ∙ yes_to _ _ (le-leb _ 256 c.if-segments-gt256.false)
 
-past-4 : (c : tie.Else5) → Past 4 (behind-4 c)
+past-4 : (c : tie.Else-axes-gt8) → Past 4 (behind-4 c)
 unfolding path_questions buffer_questions valid_axes
-past-4 c = past-3 c.before.before ∙ yes_to _ _ (rw (le-leb 1 _ c.before.if4.false, le-leb _ 8 c.if5.false))
+past-4 c = past-3 c.before.before ∙ yes_to _ _ (rw (le-leb 1 _ c.before.if-axes-lt1.false, le-leb _ 8 c.if-axes-gt8.false))
 
-returns-6 : tie.Need-returns-6
+returns-6 : tie.Need-returns-then-not-valid_range
 unfolding path_questions buffer_questions
-returns-6 c = sym (past-4 c.before.before ∙ no_to _ (rw (no c.before.valid_range.ensures c.if6.true)))
+returns-6 c = sym (past-4 c.before.before ∙ no_to _ (rw (no c.before.valid_range.ensures c.if-not-valid_range.true)))
 
-past-5 : (c : tie.Else7) → Past 5 (behind-5 c)
+past-5 : (c : tie.Else-inv-inv_ds) → Past 5 (behind-5 c)
 unfolding path_questions buffer_questions
 past-5 c =
     let d = c.before.before in
-    past-4 d.before.before ∙ yes_to _ _ (both (yes d.before.valid_range.ensures d.if6.false) (equal _ c.before.inv_ds.ensures c.if7.false))
+    past-4 d.before.before ∙ yes_to _ _ (both (yes d.before.valid_range.ensures d.if-not-valid_range.false) (equal _ c.before.inv_ds.ensures c.if-inv-inv_ds.false))
 
-past-6 : (c : tie.Else8) → Past 6 (behind-5 c.before)
+past-6 : (c : tie.Else-cells-axes) → Past 6 (behind-5 c.before)
 unfolding path_questions buffer_questions
-past-6 c = past-5 c.before ∙ yes_to _ _ (eq-eqb _ _ c.if8.false)
+past-6 c = past-5 c.before ∙ yes_to _ _ (eq-eqb _ _ c.if-cells-axes.false)
 
-past-7 : (c : tie.Else9) → Past 7 (behind-5 c.before.before.before)
+past-7 : (c : tie.Else-not-valid_level) → Past 7 (behind-5 c.before.before.before)
 unfolding path_questions buffer_questions
-past-7 c = past-6 c.before.before ∙ yes_to _ _ (yes c.before.valid_level.ensures c.if9.false)
+past-7 c = past-6 c.before.before ∙ yes_to _ _ (yes c.before.valid_level.ensures c.if-not-valid_level.false)
 
-past-8 : (c : tie.Else10) → Past 8 (behind-5 c.before.before.before.before.before)
+past-8 : (c : tie.Else-not-valid_lengths) → Past 8 (behind-5 c.before.before.before.before.before)
 unfolding path_questions buffer_questions
-past-8 c = past-7 c.before.before ∙ yes_to _ _ (yes c.before.valid_lengths.ensures c.if10.false)
+past-8 c = past-7 c.before.before ∙ yes_to _ _ (yes c.before.valid_lengths.ensures c.if-not-valid_lengths.false)
 
 -- behind the first four questions the numbers are small
-order_bound : (c : tie.Else5) → (start (behind-4 c)).args.path.order ≤ 7
+order_bound : (c : tie.Else-axes-gt8) → (start (behind-4 c)).args.path.order ≤ 7
 order_bound c =
     let d = c.before.before.before.before in
     by_order (λ order. order ≤ 7) (omega arith) (omega arith) (omega arith)
-    (start d.before).args.path.order (subst T (sym (yes d.before.valid_order.ensures d.if1.false)) tt)
+    (start d.before).args.path.order (subst T (sym (yes d.before.valid_order.ensures d.if-not-valid_order.false)) tt)
 
-segments_bound : (c : tie.Else5) → let p = (start (behind-4 c)).args.path in p.axes * p.segments ≤ 8 * 256
-segments_bound c = mul-le-mul c.if5.false c.before.before.if3.false
+segments_bound : (c : tie.Else-axes-gt8) → let p = (start (behind-4 c)).args.path in p.axes * p.segments ≤ 8 * 256
+segments_bound c = mul-le-mul c.if-axes-gt8.false c.before.before.if-segments-gt256.false
 
-table_bound : (c : tie.Else5) → let p = (start (behind-4 c)).args.path in p.axes * p.segments * (p.order + 1) ≤ 8 * 256 * 8
+table_bound : (c : tie.Else-axes-gt8) → let p = (start (behind-4 c)).args.path in p.axes * p.segments * (p.order + 1) ≤ 8 * 256 * 8
 table_bound c = let h = order_bound c in mul-le-mul {m₂ = 8} (segments_bound c) (omega arith)
 
-returns : tie.Need-returns
+returns : tie.Need-returns-then-not-valid_order
 unfolding path_questions buffer_questions
-returns c = sym (no_to _ (no c.before.valid_order.ensures c.if1.true))
+returns c = sym (no_to _ (no c.before.valid_order.ensures c.if-not-valid_order.true))
 
-returns-2 : tie.Need-returns-2
+returns-2 : tie.Need-returns-then-segments-lt1
 unfolding path_questions buffer_questions
-returns-2 c = sym (past-1 c.before ∙ no_to _ (lt-leb 1 _ c.if2.true))
+returns-2 c = sym (past-1 c.before ∙ no_to _ (lt-leb 1 _ c.if-segments-lt1.true))
 
-returns-3 : tie.Need-returns-3
+returns-3 : tie.Need-returns-then-segments-gt256
 unfolding path_questions buffer_questions
-returns-3 c = sym (past-2 c.before ∙ no_to _ (lt-leb _ 256 c.if3.true))
+returns-3 c = sym (past-2 c.before ∙ no_to _ (lt-leb _ 256 c.if-segments-gt256.true))
 
-returns-4 : tie.Need-returns-4
+returns-4 : tie.Need-returns-then-axes-lt1
 unfolding path_questions buffer_questions valid_axes
-returns-4 c = sym (past-3 c.before ∙ no_to _ (rw (lt-leb 1 _ c.if4.true)))
+returns-4 c = sym (past-3 c.before ∙ no_to _ (rw (lt-leb 1 _ c.if-axes-lt1.true)))
 
-returns-5 : tie.Need-returns-5
+returns-5 : tie.Need-returns-then-axes-gt8
 unfolding path_questions buffer_questions valid_axes
-returns-5 c = sym (past-3 c.before.before ∙ no_to _ (rw (le-leb 1 _ c.before.if4.false, lt-leb _ 8 c.if5.true)))
+returns-5 c = sym (past-3 c.before.before ∙ no_to _ (rw (le-leb 1 _ c.before.if-axes-lt1.false, lt-leb _ 8 c.if-axes-gt8.true)))
 
-returns-7 : tie.Need-returns-7
+returns-7 : tie.Need-returns-then-inv-inv_ds
 unfolding path_questions buffer_questions
 returns-7 c =
     let d = c.before.before in
     sym (past-4 d.before.before
     ∙ no_to _ (sym (last_decides
-    (yes d.before.valid_range.ensures d.if6.false)
-    (sym (unequal _ c.before.inv_ds.ensures c.if7.true)))))
+    (yes d.before.valid_range.ensures d.if-not-valid_range.false)
+    (sym (unequal _ c.before.inv_ds.ensures c.if-inv-inv_ds.true)))))
 
-mul-if8 : tie.Need-overflow-mul-if8
+mul-if8 : tie.Need-overflow_mul-axes
 mul-if8 c = let h = segments_bound c.before.before.before.before in record { fits = omega arith }
 
-add-if8 : tie.Need-overflow-add-if8
+add-if8 : tie.Need-overflow_add-order
 add-if8 c = let h = order_bound c.before.before.before.before in record { fits = omega arith }
 
-mul-if8-2 : tie.Need-overflow-mul-if8-2
+mul-if8-2 : tie.Need-overflow_mul-axes-2
 mul-if8-2 c = let h = table_bound c.before.before.before.before in record { fits = omega arith }
 
-returns-8 : tie.Need-returns-8
+returns-8 : tie.Need-returns-then-cells-axes
 unfolding path_questions buffer_questions
-returns-8 c = sym (past-5 c.before ∙ no_to _ (ne_eqb _ _ c.if8.true))
+returns-8 c = sym (past-5 c.before ∙ no_to _ (ne_eqb _ _ c.if-cells-axes.true))
 
-returns-9 : tie.Need-returns-9
+returns-9 : tie.Need-returns-then-not-valid_level
 unfolding path_questions buffer_questions
-returns-9 c = sym (past-6 c.before.before ∙ no_to _ (no c.before.valid_level.ensures c.if9.true))
+returns-9 c = sym (past-6 c.before.before ∙ no_to _ (no c.before.valid_level.ensures c.if-not-valid_level.true))
 
-returns-10 : tie.Need-returns-10
+returns-10 : tie.Need-returns-then-not-valid_lengths
 unfolding path_questions buffer_questions
-returns-10 c = sym (past-7 c.before.before ∙ no_to _ (no c.before.valid_lengths.ensures c.if10.true))
+returns-10 c = sym (past-7 c.before.before ∙ no_to _ (no c.before.valid_lengths.ensures c.if-not-valid_lengths.true))
 
-returns-11 : tie.Need-returns-11
+returns-11 : tie.Need-returns
 unfolding path_questions buffer_questions first_no
 returns-11 c = sym (past-8 c)
 
-pub query-questions-spec : {M : Type 1} → statement M
-query-questions-spec =
+pub query_questions_spec : {M : Type 1} → statement M
+query_questions_spec =
     tie.close
     (tie.spec
     (λ c κs. search rules)
