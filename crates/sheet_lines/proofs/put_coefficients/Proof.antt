@@ -1,3 +1,4 @@
+-- turned
 -- `sheet_lines::put_coefficients` meets its contract. The loop's invariant: the first k coefficients are written. Assumes nothing.
 use mathlib.Core.Path.{ap}
 use mathlib.Core.List.{List}
@@ -19,48 +20,48 @@ use Rattle.sheet_lines.proofs.put_coefficients.Tie as tie
 abbrev inHex : List Float → ℕ → List ℕ
 inHex coeffs k = coefficient (coeffs ! k)
 
-abbrev invariant-loop : tie.invariant-loop
+abbrev invariant-loop : tie.invariant-loop-k
 invariant-loop out₀ at coeffs end₀ k₀ out end k = (k ≤ length coeffs) × Wrote out₀ at (joined k (inHex coeffs)) end out
 
-abbrev decreases-loop : tie.decreases-loop
+abbrev decreases-loop : tie.decreases-loop-k
 decreases-loop out₀ at coeffs end₀ k₀ out end k = length coeffs - k
 
-loop-holds : tie.Need-loop-init invariant-loop decreases-loop
+loop-holds : tie.Need-loop-k-init invariant-loop decreases-loop
 unfolding joined
 loop-holds c = (omega arith, wrote_none _ _)
 
-put-coefficient-requires : tie.Need-put-coefficient-requires invariant-loop decreases-loop
+put-coefficient-requires : tie.Need-put_coefficient-end-requires invariant-loop decreases-loop
 put-coefficient-requires c κs =
     let i = c.before.before.before in
     let s = i.before.before.before in
     let cs = s.args.coeffs.now in
     omega (
       arith,
-      part_room (length cs) (inHex cs) i.loop.k c.before.before.loop-test.true s.requires i.loop.invariant.1,
-      length-hex (to_bits binary64 (cs ! i.loop.k)),
+      part_room (length cs) (inHex cs) i.loop-k.k c.before.before.loop-k-test.true s.requires i.loop-k.invariant.1,
+      length-hex (to_bits binary64 (cs ! i.loop-k.k)),
     )
 
-loop-again : tie.Need-loop-preserved invariant-loop decreases-loop
+loop-again : tie.Need-loop-k-preserved invariant-loop decreases-loop
 loop-again c =
     let i = c.before.before.before.before.before.before in
     let s = i.before.before.before in
     let cs = s.args.coeffs.now in
-    let k = i.loop.k in
+    let k = i.loop-k.k in
     let l : k < length cs = omega arith in (
       omega arith,
-      wrote_part (length cs) (inHex cs) k l s.requires i.loop.invariant.1 (ap coefficient (read cs k l)) c.before.before.put_coefficient.ensures,
+      wrote_part (length cs) (inHex cs) k l s.requires i.loop-k.invariant.1 (ap coefficient (read cs k l)) c.before.before.put_coefficient-end.ensures,
     )
 
 returns : tie.Need-returns invariant-loop decreases-loop
 returns c =
-    let l = c.before.loop in
-    wrote_parts _ (inHex c.before.before.before.before.args.coeffs.now) l.k l.invariant.0 c.loop-test.false l.invariant.1
+    let l = c.before.loop-k in
+    wrote_parts _ (inHex c.before.before.before.before.args.coeffs.now) l.k l.invariant.0 c.loop-k-test.false l.invariant.1
 
-same_length : tie.Need-same-length invariant-loop decreases-loop
+same_length : tie.Need-shape_of-out invariant-loop decreases-loop
 same_length c = let w = returns c in wrote_kept w (omega (arith, w.place, c.before.before.before.before.requires))
 
-pub put-coefficients-spec : {M : Type 1} → statement M
-put-coefficients-spec =
+pub put_coefficients_spec : {M : Type 1} → statement M
+put_coefficients_spec =
     tie.close
     (tie.spec
     invariant-loop
