@@ -1,10 +1,11 @@
+-- turned
 -- `build_sweeps::back_step` meets its contract: node i's part comes back with its numbers, and solved C, kept by columns, is the definition's.
 -- It stands at the place of the first node that has the same. Assumes nothing.
 use mathlib.Core.Path.{sym, ap, ap₂, ◌∙◌}
 use mathlib.Core.List.{List}
-use Prim.Native.Nat.{ℕ, ◌+◌, ◌*◌, ◌≤◌}
+use Prim.Native.Nat.{ℕ, ◌+◌, ◌*◌}
 use native.Mathlib.Omega.{arith}
-use lib.ListN.{length, take, drop}
+use lib.ListN.{take, drop}
 use lib.Ieee.{Float}
 use Rattle.rules.specs.Solve.{times, minus, solved_c_of}
 use Rattle.build_products.specs.Columns.{transposed}
@@ -18,48 +19,31 @@ use borrow.Author.Rules.{rules}
 use Rattle.build_sweeps.proofs.back_step.Statement.{statement}
 use Rattle.build_sweeps.proofs.back_step.Tie as tie
 
--- ---- places: the entry, and before the subtraction
-
-abbrev begun : tie.After-settled → tie.Start
-begun c = c.before.before.before.before
-
-abbrev found : tie.After-copy → tie.After-settled
-found c = c.before.before.before.before
-
--- the part of solved C is inside
-inside : (c : tie.After-settled) → let args = (begun c).args in c.settled.result * (args.m * args.m) + args.m * args.m ≤ length args.solved_c.now
-inside c = solved_inside (begun c).args.i (begun c).requires.1 c.settled.ensures
-
 returns : tie.Need-returns
 returns c =
-    let call = c.before.before.subtract_product in
-    let at-arg2 = c.before.before.before.before in
-    let at_copy = at-arg2.before.before.before.before in
-    let place = found at_copy in
-    let start = begun place in
-    let args = start.args in
+    let args = c.args in
     let m = args.m in
     let i = args.i in
     let solved : List Float = args.solved.now in
-    let k = place.settled.result in
+    let k = c.settled.result in
     ap (λ (ys : List Float). put m i ys solved)
-    (call.ensures
+    (c.subtract_product.ensures
     ∙ ap₂ (minus m) (part_size (i * m) m solved)
     (ap₂ (times m)
     (ap (transposed m)
     (part_size (k * (m * m)) (m * m) args.solved_c.now
-    ∙ ap (λ (j : ℕ). take (m * m) (drop (j * (m * m)) args.solved_c.now)) place.settled.ensures
-    ∙ start.pre.1.solved_at i (omega arith))
+    ∙ ap (λ (j : ℕ). take (m * m) (drop (j * (m * m)) args.solved_c.now)) c.settled.ensures
+    ∙ c.requires.1.solved_at i (omega arith))
     ∙ transposed_twice m (solved_c_of m i) (length-solved_c m i))
-    (at_copy.copy.ensures ∙ part_size (i * m + m) m solved ∙ ap (λ (j : ℕ). take m (drop j solved)) (sym (next_part m i)))))
+    (c.copy.ensures ∙ part_size (i * m + m) m solved ∙ ap (λ (j : ℕ). take m (drop j solved)) (sym (next_part m i)))))
 
-pub back-step-spec : {M : Type 1} → statement M
-back-step-spec =
+pub back_step_spec : {M : Type 1} → statement M
+back_step_spec =
     tie.close
     (tie.spec
     (λ c κs. search rules)
-    (λ c. omega (arith, inside c))
-    (λ c. omega (arith, inside c))
+    (λ c. omega (arith, solved_inside c.args.i c.requires.1 c.settled.ensures))
+    (λ c. omega (arith, solved_inside c.args.i c.requires.1 c.settled.ensures))
     (λ c. search rules)
     (λ c. search rules)
     (λ c. search rules)
@@ -68,12 +52,12 @@ back-step-spec =
     (λ c. search rules)
     (λ c. search rules)
     (λ c κs. search rules)
-    (λ c. omega (arith, inside (found c.before.before)))
-    (λ c. omega (arith, inside (found c.before.before)))
-    (λ c. omega (arith, inside (found c.before.before)))
+    (λ c. omega (arith, solved_inside c.args.i c.requires.1 c.settled.ensures))
+    (λ c. omega (arith, solved_inside c.args.i c.requires.1 c.settled.ensures))
+    (λ c. omega (arith, solved_inside c.args.i c.requires.1 c.settled.ensures))
     (λ c. search rules)
     (λ c. search rules)
-    (λ c. omega (arith, inside (found c.before.before)))
+    (λ c. omega (arith, solved_inside c.args.i c.requires.1 c.settled.ensures))
     (λ c. search rules)
     (λ c. search rules)
     (λ c. search rules)
