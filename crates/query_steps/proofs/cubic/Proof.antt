@@ -1,3 +1,4 @@
+-- turned
 -- `query_steps::cubic` meets its contract: its steps are those of each derivative. Assumes nothing.
 use mathlib.Core.Path.{◌≡◌, ◌∙◌}
 use Prim.Native.Nat.{ℕ}
@@ -14,48 +15,48 @@ abbrev derivative : tie.Start → ℕ → Float
 derivative s = fused_derivative 3 s.args.a.now s.args.t
 
 -- where the position and the first two derivatives are found, past the test for level 0
-module _ (c : tie.After-mul-add6) where
-  abbrev past-0 : tie.Else1
+module _ (c : tie.After-mul_add-q) where
+  abbrev past-0 : tie.Else-level-eq0
   past-0 = c.before.before.before.before.before.before.before.before.before.before
 
   abbrev start : tie.Start
   start = past-0.before.before
 
-  position : c.mul-add6.result ≡ derivative start 0
+  position : c.mul_add-q.result ≡ derivative start 0
   unfolding listed derivative_factor
   position =
       let q1 = c.before.before in
       let q2 = q1.before.before.before in
-      derivative_is _ 0 start.pre.1 (step c.mul-add6.ensures (step q1.mul-add4.ensures (step q2.mul_add.ensures last)))
+      derivative_is _ 0 start.requires.1 (step c.mul_add-q.ensures (step q1.mul_add-q1.ensures (step q2.mul_add-q2.ensures last)))
 
-  first : c.before.mul-add5.result ≡ derivative start 1
+  first : c.before.mul_add-dq.result ≡ derivative start 1
   unfolding of_bits of_int listed derivative_factor
   first =
       let dq1 = c.before in
       let dq2 = dq1.before.before.before in
-      derivative_is _ 1 start.pre.1 (step dq1.mul-add5.ensures (step dq2.mul-add2.ensures last))
+      derivative_is _ 1 start.requires.1 (step dq1.mul_add-dq.ensures (step dq2.mul_add-dq2.ensures last))
 
-  second : c.before.before.before.mul-add3.result ≡ derivative start 2
+  second : c.before.before.before.mul_add-ddq.result ≡ derivative start 2
   unfolding of_bits of_int listed derivative_factor
-  second = derivative_is _ 2 start.pre.1 (step c.before.before.before.mul-add3.ensures last)
+  second = derivative_is _ 2 start.requires.1 (step c.before.before.before.mul_add-ddq.ensures last)
 
-returns : tie.Need-returns
-returns c = c.position.ensures ∙ asked_0 (derivative c.before.before.before.before) c.before.cubic_position.ensures c.before.before.if1.true
+returns : tie.Need-returns-then-level-eq0
+returns c = c.position.ensures ∙ asked_0 (derivative c.before.before.before.before) c.before.cubic_position.ensures c.before.before.if-level-eq0.true
 
-returns-2 : tie.Need-returns-2
+returns-2 : tie.Need-returns-then-level-eq2
 returns-2 c =
     let at = c.before.before in
-    c.up_to_second.ensures ∙ asked_2 (derivative (start at)) (position at) (first at) (second at) c.before.if2.true
+    c.up_to_second.ensures ∙ asked_2 (derivative (start at)) (position at) (first at) (second at) c.before.if-level-eq2.true
 
-returns-3 : tie.Need-returns-3
+returns-3 : tie.Need-returns
 unfolding of_bits of_int listed derivative_factor
 returns-3 c =
     let at = c.before in
     let s = start at in
-    asked_3 (derivative s) (position at) (first at) (second at) (derivative_is _ 3 s.pre.1 last) (is_3 _ s.pre.0 (past-0 at).if1.false c.if2.false)
+    asked_3 (derivative s) (position at) (first at) (second at) (derivative_is _ 3 s.requires.1 last) (is_3 _ s.requires.0 (past-0 at).if-level-eq0.false c.if-level-eq2.false)
 
-pub cubic-spec : {M : Type 1} → statement M
-cubic-spec =
+pub cubic_spec : {M : Type 1} → statement M
+cubic_spec =
     tie.close
     (tie.spec
     (λ c κs. search rules)

@@ -1,3 +1,4 @@
+-- turned
 -- `query_steps::cubic_position` meets its contract: its steps are the position's. Assumes nothing.
 use borrow.Author.Rules.{rules}
 use Rattle.law_lists.specs.Lists.{listed}
@@ -11,10 +12,10 @@ unfolding listed derivative_factor
 returns c =
     let q1 = c.before.before in
     let q2 = q1.before.before in
-    derivative_is _ 0 q2.before.before.before.before.requires (step c.mul-add3.ensures (step q1.mul-add2.ensures (step q2.mul_add.ensures last)))
+    derivative_is _ 0 q2.before.before.before.before.requires (step c.mul_add-3.ensures (step q1.mul_add-2.ensures (step q2.mul_add.ensures last)))
 
-pub cubic-position-spec : {M : Type 1} → statement M
-cubic-position-spec =
+pub cubic_position_spec : {M : Type 1} → statement M
+cubic_position_spec =
     tie.close
     (tie.spec
     (λ c. search rules)

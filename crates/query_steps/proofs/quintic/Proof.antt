@@ -1,3 +1,4 @@
+-- turned
 -- `query_steps::quintic` meets its contract: its steps are those of each derivative. Assumes nothing.
 use mathlib.Core.Path.{◌≡◌, ◌∙◌}
 use Prim.Native.Nat.{ℕ}
@@ -14,66 +15,66 @@ abbrev derivative : tie.Start → ℕ → Float
 derivative s = fused_derivative 5 s.args.a.now s.args.t
 
 -- where the fused steps begin, past the test for level 0
-abbrev read : tie.After-mul-add → tie.Else1
+abbrev read : tie.After-mul_add-q4 → tie.Else-level-eq0
 read c = c.before.before.before.before.before.before.before
 
 -- where the position and the first two derivatives are found
-module _ (c : tie.After-mul-add12) where
-  abbrev past-0 : tie.Else1
+module _ (c : tie.After-mul_add-q) where
+  abbrev past-0 : tie.Else-level-eq0
   past-0 = read c.before.before.before.before.before.before.before.before.before.before.before
 
   abbrev start : tie.Start
   start = past-0.before.before
 
-  position : c.mul-add12.result ≡ derivative start 0
+  position : c.mul_add-q.result ≡ derivative start 0
   unfolding listed derivative_factor
   position =
       let q1 = c.before.before in
       let q2 = q1.before.before.before in
       let q3 = q2.before.before.before in
       let q4 = q3.before.before.before in
-      derivative_is _ 0 start.pre.1
-      (step c.mul-add12.ensures
-      (step q1.mul-add10.ensures (step q2.mul-add7.ensures (step q3.mul-add4.ensures (step q4.mul_add.ensures last)))))
+      derivative_is _ 0 start.requires.1
+      (step c.mul_add-q.ensures
+      (step q1.mul_add-q1.ensures (step q2.mul_add-q2.ensures (step q3.mul_add-q3.ensures (step q4.mul_add-q4.ensures last)))))
 
-  first : c.before.mul-add11.result ≡ derivative start 1
+  first : c.before.mul_add-dq.result ≡ derivative start 1
   unfolding of_bits of_int listed derivative_factor
   first =
       let dq1 = c.before in
       let dq2 = dq1.before.before.before in
       let dq3 = dq2.before.before.before in
       let dq4 = dq3.before.before.before in
-      derivative_is _ 1 start.pre.1
-      (step dq1.mul-add11.ensures (step dq2.mul-add8.ensures (step dq3.mul-add5.ensures (step dq4.mul-add2.ensures last))))
+      derivative_is _ 1 start.requires.1
+      (step dq1.mul_add-dq.ensures (step dq2.mul_add-dq2.ensures (step dq3.mul_add-dq3.ensures (step dq4.mul_add-dq4.ensures last))))
 
-  second : c.before.before.before.mul-add9.result ≡ derivative start 2
+  second : c.before.before.before.mul_add-ddq.result ≡ derivative start 2
   unfolding of_bits of_int listed derivative_factor
   second =
       let ddq2 = c.before.before.before in
       let ddq3 = ddq2.before.before.before in
       let ddq4 = ddq3.before.before.before in
-      derivative_is _ 2 start.pre.1 (step ddq2.mul-add9.ensures (step ddq3.mul-add6.ensures (step ddq4.mul-add3.ensures last)))
+      derivative_is _ 2 start.requires.1 (step ddq2.mul_add-ddq.ensures (step ddq3.mul_add-ddq3.ensures (step ddq4.mul_add-ddq4.ensures last)))
 
-returns : tie.Need-returns
+returns : tie.Need-returns-then-level-eq0
 returns c =
-    c.position.ensures ∙ asked_0 (derivative c.before.before.before.before) c.before.quintic_position.ensures c.before.before.if1.true
+    c.position.ensures ∙ asked_0 (derivative c.before.before.before.before) c.before.quintic_position.ensures c.before.before.if-level-eq0.true
 
-returns-2 : tie.Need-returns-2
+returns-2 : tie.Need-returns-then-level-eq2
 returns-2 c =
     let at = c.before.before in
-    c.up_to_second.ensures ∙ asked_2 (derivative (start at)) (position at) (first at) (second at) c.before.if2.true
+    c.up_to_second.ensures ∙ asked_2 (derivative (start at)) (position at) (first at) (second at) c.before.if-level-eq2.true
 
-returns-3 : tie.Need-returns-3
+returns-3 : tie.Need-returns
 unfolding of_bits of_int listed derivative_factor
 returns-3 c =
     let past-2 = c.before.before in
     let at = past-2.before in
     let s = start at in
-    let third = derivative_is _ 3 s.pre.1 (step c.mul-add14.ensures (step c.before.mul-add13.ensures last)) in
-    asked_3 (derivative s) (position at) (first at) (second at) third (is_3 _ s.pre.0 (past-0 at).if1.false past-2.if2.false)
+    let third = derivative_is _ 3 s.requires.1 (step c.mul_add-dddq.ensures (step c.before.mul_add.ensures last)) in
+    asked_3 (derivative s) (position at) (first at) (second at) third (is_3 _ s.requires.0 (past-0 at).if-level-eq0.false past-2.if-level-eq2.false)
 
-pub quintic-spec : {M : Type 1} → statement M
-quintic-spec =
+pub quintic_spec : {M : Type 1} → statement M
+quintic_spec =
     tie.close
     (tie.spec
     (λ c κs. search rules)

@@ -1,3 +1,4 @@
+-- turned
 -- `query_steps::quintic_position` meets its contract: its steps are the position's. Assumes nothing.
 use borrow.Author.Rules.{rules}
 use Rattle.law_lists.specs.Lists.{listed}
@@ -14,11 +15,11 @@ returns c =
     let q3 = q2.before.before in
     let q4 = q3.before.before in
     derivative_is _ 0 q4.before.before.before.before.requires
-    (step c.mul-add5.ensures
-    (step q1.mul-add4.ensures (step q2.mul-add3.ensures (step q3.mul-add2.ensures (step q4.mul_add.ensures last)))))
+    (step c.mul_add-4.ensures
+    (step q1.mul_add-3.ensures (step q2.mul_add-2.ensures (step q3.mul_add-upper.ensures (step q4.mul_add.ensures last)))))
 
-pub quintic-position-spec : {M : Type 1} → statement M
-quintic-position-spec =
+pub quintic_position_spec : {M : Type 1} → statement M
+quintic_position_spec =
     tie.close
     (tie.spec
     (λ c. search rules)
