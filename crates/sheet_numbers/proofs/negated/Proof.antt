@@ -1,3 +1,4 @@
+-- turned
 -- `sheet_numbers::negated` meets its contract: up to 2^40, less than 0 fits as well. Assumes nothing.
 use mathlib.Core.Path.{◌≡◌}
 use Prim.Native.Nat.{ℕ, zero, suc, ◌≤◌, ◌^◌}
@@ -23,17 +24,15 @@ fits (negsuc n) h = (record { sfits = omega arith }, record { sfits = omega arit
 less-fits : (z : ℤ) → nat_abs z ≤ 2 ^ 40 → SFits w64 (pos 0 -ℤ to_z w64 (of_z w64 z))
 less-fits z h = rw (to_z-of_z (fits z h).0, +ℤ_idl (neg_ℤ z)) (fits z h).1
 
-sub-minus : tie.Need-overflow-sub-minus
-sub-minus c = less-fits c.before.whole.given.0.0 (whole_small _ _ _ c.before.whole.given.1 c.before.before.before.requires)
+sub-minus : tie.Need-overflow_sub-minus
+sub-minus c = less-fits c.in-Is.value (whole_small _ _ _ c.in-Is.is c.requires)
 
 negated-is : (w : Whole) (z : ℤ) (next : ℕ) → w ≡ whole.Is z next → nat_abs z ≤ 2 ^ 40
     → whole.Is (to_z w64 (of_z w64 (pos 0 -ℤ to_z w64 (of_z w64 z)))) next ≡ negated_of w
 negated-is w z next e h = rw (e, to_z-of_z (less-fits z h), to_z-of_z (fits z h).0, +ℤ_idl (neg_ℤ z))
 
-returns : tie.Need-returns
-returns c =
-    let e = c.before.whole.given.1 in
-    negated-is _ c.before.whole.given.0.0 _ e (whole_small _ _ _ e c.before.before.before.requires)
+returns : tie.Need-returns-in-Is
+returns c = negated-is _ c.in-Is.value _ c.in-Is.is (whole_small _ _ _ c.in-Is.is c.requires)
 
-pub negated-spec : {M : Type 1} → statement M
-negated-spec = tie.close (tie.spec (λ c. search rules) sub-minus (λ c. search rules) returns (λ c. rw c.before.whole2.given.1))
+pub negated_spec : {M : Type 1} → statement M
+negated_spec = tie.close (tie.spec (λ c. search rules) sub-minus (λ c. search rules) returns (λ c. rw c.in-Stop.is))

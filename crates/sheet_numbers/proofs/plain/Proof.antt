@@ -1,3 +1,4 @@
+-- turned
 -- `sheet_numbers::plain` meets its contract: a worth up to 2^40 fits. Assumes nothing.
 use mathlib.Core.Path.{◌≡◌, subst}
 use Prim.Native.Nat.{ℕ, ◌≤◌, ◌^◌}
@@ -21,16 +22,14 @@ worth-small p v next e h = (subst (DecimalSmall 1 (2 ^ 40)) e h).1
 plain-is : (p : Decimal) (start v next : ℕ) → p ≡ Worth v next → v ≤ 2 ^ 40 → whole.Is (to_z w64 v) next ≡ plain_of start p
 plain-is p start v next e h = rw (e, to_z_pos w64 {n = v} (omega arith))
 
-cast-size : tie.Need-overflow-cast-size
-cast-size c = let w = worth-small _ _ _ c.before.run.given.1 c.before.before.before.requires in record { sfits = omega arith }
+cast-size : tie.Need-overflow_cast-size
+cast-size c = let w = worth-small _ _ _ c.in-Worth.is c.requires in record { sfits = omega arith }
 
-returns : tie.Need-returns
-returns c =
-    let e = c.before.run.given.1 in
-    plain-is _ _ _ _ e (worth-small _ _ _ e c.before.before.before.requires)
+returns : tie.Need-returns-in-Worth
+returns c = plain-is _ _ _ _ c.in-Worth.is (worth-small _ _ _ c.in-Worth.is c.requires)
 
-pub plain-spec : {M : Type 1} → statement M
-plain-spec =
+pub plain_spec : {M : Type 1} → statement M
+plain_spec =
     tie.close
     (tie.spec
     (λ c. search rules)
@@ -38,5 +37,5 @@ plain-spec =
     (λ c. search rules)
     (λ c. search rules)
     returns
-    (λ c. rw c.before.run2.given.1)
-    (λ c. rw c.before.run3.given.1))
+    (λ c. rw c.in-Missing.is)
+    (λ c. rw c.in-Over.is))
