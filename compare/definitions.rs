@@ -117,7 +117,7 @@ fn refused_build(random: &mut Random, trial: usize) -> String {
     if trial >= Build::DAMAGES {
         b.damage(random.below(Build::DAMAGES as u64) as usize);
     }
-    format!("eqb (buildNumber {} {}) {}", b.text(), b.cells, b.number())
+    format!("eqb (build_number {} {}) {}", b.text(), b.cells, b.number())
 }
 
 // ---- queries
@@ -175,7 +175,7 @@ fn refused_query(random: &mut Random, trial: usize) -> String {
     if trial >= Query::DAMAGES {
         q.damage(random.below(Query::DAMAGES as u64) as usize);
     }
-    format!("eqb (queryNumber {}) {}", q.text(), q.number())
+    format!("eqb (query_number {}) {}", q.text(), q.number())
 }
 
 // ---- fused steps
@@ -243,25 +243,20 @@ fn main() {
     let unfolding = &pieces[from..from + pieces[from..].find("\nboth").unwrap()];
     println!("-- Random trials of the definitions. Assumes nothing.");
     println!("{}", uses.join("\n"));
-    println!("use Prim.Native.Nat.{{ℕ}}");
-    println!("use mathlib.Core.Bool.{{Bool, true, false, _&&_, Bool·beq}}");
-    println!("use mathlib.Core.List.{{[], _∷_}}");
-    println!("use lib.Dec.{{eqb}}");
-    println!("use lib.IntN.{{pos}}");
-    println!("use lib.ListN.{{replicate}}");
-    println!("use lib.Ieee.{{Float, nan, binary64, ofBits}}");
-    println!("use Rattle·rules·specs.specs.declared.OutOfRangeMode.the-variants.{{Error, Clamp}}");
-    println!("use Rattle·rules·specs.specs.declared.BoundaryState.the-variants.{{None, Given}}");
-    println!("use Rattle·rules·specs.specs.Tables.{{neg as negative}}");
-    println!("use Rattle·rules·specs.specs.Master.{{MasterSet}}");
-    println!("use Rattle·rules·specs.specs.Pieces.{{built, queried, stepped}}\n");
-    println!("abbrev f : ℕ → Float\nunfolding ofBits\nf bits = ofBits binary64 bits\n");
+    println!("use Rattle.std.specs.Prelude.{{ℕ, Bool, true, false, ◌&&◌, [], ◌∷◌, eqb, pos, replicate, Float}}");
+    println!("use Rattle.std.specs.Bool.{{beq}}\nuse Rattle.std.specs.Float.{{nan, binary64}}\nuse lib.Ieee.{{of_bits}}");
+    println!("use Rattle.rules.specs.declared.OutOfRangeMode.TheVariants.{{Error, Clamp}}");
+    println!("use Rattle.rules.specs.declared.BoundaryState.TheVariants.{{None, Given}}");
+    println!("use Rattle.rules.specs.Tables.{{neg as negative}}");
+    println!("use Rattle.rules.specs.Master.{{MasterSet}}");
+    println!("use Rattle.rules.specs.Pieces.{{built, queried, stepped}}\n");
+    println!("abbrev f : ℕ → Float\nunfolding of_bits\nf bits = of_bits binary64 bits\n");
     println!("abbrev says : MasterSet → ℕ → Bool → Bool");
-    println!("says s number good = eqb (checkMaster s .number) number && Bool·beq (checkMaster s .good) good\n");
+    println!("says s number good = eqb (check_master s).number number && beq (check_master s).good good\n");
     for kind in [build, query, fused_steps, refused_build, refused_query, master_check] {
         for trial in 0..count {
             let name = format!("trial-{}", random.bits());
-            println!("{name} : T ({})\n{unfolding} ofBits\n{name} = tt\n", kind(&mut random, trial));
+            println!("{name} : T ({})\n{unfolding} of_bits\n{name} = tt\n", kind(&mut random, trial));
         }
     }
 }
