@@ -3,8 +3,9 @@
 // many calls there were.
 #![tactic(auto)]
 
-use libc::STDIN_FILENO;
 use rules::{NumberAnswer, NumberReading};
+use std::io;
+use std::io::Read;
 use test_common::seen;
 use test_common::seen::Seen;
 use test_input::read;
@@ -17,13 +18,13 @@ struct Reading {
     kept: NumberReading,
 }
 
-fn next_record() -> NumberReading {
+fn next_record<R: Read>(reader: &mut R) -> NumberReading {
     NumberReading {
-        start: read::natural(),
-        next: read::natural(),
-        size: read::natural() as u64,
-        stage: (read::natural() % 256) as u8,
-        minus: (read::natural() % 256) as u8,
+        start: read::natural(reader),
+        next: read::natural(reader),
+        size: read::natural(reader) as u64,
+        stage: (read::natural(reader) % 256) as u8,
+        minus: (read::natural(reader) % 256) as u8,
     }
 }
 
@@ -35,43 +36,45 @@ fn is_unlike(a: NumberReading, b: NumberReading) -> bool {
 }
 
 // What the record says is compared with the next three numbers.
-fn says(seen: Seen, said: NumberAnswer) -> Seen {
-    let seen = seen::answered(seen, said.number, read::natural());
-    seen::integer(seen::natural(seen, said.at), said.value)
+fn says<R: Read>(reader: &mut R, seen: Seen, said: NumberAnswer) -> Seen {
+    let seen = seen::answered(seen, said.number, read::natural(reader));
+    let seen = seen::natural(reader, seen, said.at);
+    seen::integer(reader, seen, said.value)
 }
 
-fn goes_on(reading: Reading, bytes: &[u8]) -> Reading {
+fn goes_on<R: Read>(reader: &mut R, reading: Reading, bytes: &[u8]) -> Reading {
     let kept = number::go_on(reading.kept, bytes);
-    let seen = seen::called(reading.seen, is_unlike(kept, next_record()));
+    let seen = seen::called(reading.seen, is_unlike(kept, next_record(reader)));
     Reading {
-        seen: says(seen, number::finish(kept)),
+        seen: says(reader, seen, number::finish(kept)),
         kept,
     }
 }
 
 // A line's end stands behind a piece.
-fn skip_end() {
+fn skip_end<R: Read>(reader: &mut R) {
     let mut end = [0u8; 1];
-    io::read_full(STDIN_FILENO, &mut end);
+    read::full(reader, &mut end);
 }
 
-fn piece_in(reading: Reading, line: &mut [u8], count: usize) -> Reading {
+fn piece_in<R: Read>(reader: &mut R, reading: Reading, line: &mut [u8], count: usize) -> Reading {
     let length = read::least(count, line.len());
-    io::read_full(STDIN_FILENO, &mut line[0..length]);
-    skip_end();
-    goes_on(reading, &line[0..read::least(length, line.len())])
+    read::full(reader, &mut line[0..length]);
+    skip_end(reader);
+    goes_on(reader, reading, &line[0..read::least(length, line.len())])
 }
 
 // A piece has at most 64 bytes; what is more is cut off.
-fn piece(reading: Reading) -> Reading {
+fn piece<R: Read>(reader: &mut R, reading: Reading) -> Reading {
     let mut line = [0; 64];
-    piece_in(reading, &mut line, read::count())
+    let count = read::count(reader);
+    piece_in(reader, reading, &mut line, count)
 }
 
-fn pieces(reading: Reading, count: usize) -> Seen {
+fn pieces<R: Read>(reader: &mut R, reading: Reading, count: usize) -> Seen {
     let mut reading = reading;
     for _ in 0..count {
-        reading = piece(reading);
+        reading = piece(reader, reading);
     }
     reading.seen
 }
@@ -88,32 +91,40 @@ fn begin(seen: Seen, begun: usize, given: NumberReading) -> Reading {
     }
 }
 
-fn trial(seen: Seen) -> Seen {
-    let reading = begin(seen, read::count(), next_record());
-    pieces(reading, read::count())
+fn trial<R: Read>(reader: &mut R, seen: Seen) -> Seen {
+    let reading = begin(seen, read::count(reader), next_record(reader));
+    let count = read::count(reader);
+    pieces(reader, reading, count)
 }
 
-fn next(seen: Seen, name: Name) -> Seen {
+fn next<R: Read, P: Print>(
+    reader: &mut R,
+    printer: &P,
+    seen: Seen,
+    name: Name,
+) -> io::Result<Seen> {
     if name.is_remark {
-        return seen;
+        return Ok(seen);
     }
-    seen::named(seen, trial(seen), name)
+    seen::named(printer, seen, trial(reader, seen), name)
 }
 
 // A proved loop has to end, and nothing says that the input does. So it ends at a number of lines that the input does
 // not reach.
-fn replay() -> Seen {
+fn replay<R: Read, P: Print>(reader: &mut R, printer: &P) -> io::Result<Seen> {
     let mut seen = seen::nothing();
     for _ in 0..100000u32 {
-        let name = read::next_name();
+        let name = read::next_name(reader);
         if name.length != 68 {
-            return seen::ended(seen, name);
+            return Ok(seen::ended(seen, name));
         }
-        seen = next(seen, name);
+        seen = next(reader, printer, seen, name)?;
     }
-    seen
+    Ok(seen)
 }
 
-fn main() {
-    seen::report(replay());
+fn main(rt: HostRuntime) -> io::Result<()> {
+    let mut reader = rt.stdin();
+    let seen = replay(&mut reader, &rt)?;
+    seen::report(&rt, seen)
 }
