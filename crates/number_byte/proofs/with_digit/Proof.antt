@@ -1,3 +1,4 @@
+-- turned
 -- `number_byte::with_digit` meets its contract. Assumes nothing.
 use Rattle.std.proofs.Common.{rules, le-leb}
 use borrow.Author.Tests.{lt-leb}
@@ -5,14 +6,14 @@ use Rattle.rules.specs.SheetNumbers.{with_digit}
 use Rattle.number_byte.proofs.with_digit.Statement.{statement}
 use Rattle.number_byte.proofs.with_digit.Tie as tie
 
-returns : tie.Need-returns
+returns : tie.Need-returns-then-sum-gt-LIMIT
 unfolding with_digit
-returns c = rw (c.left.ensures, lt-leb _ _ c.before.if1.true)
+returns c = rw (c.left.ensures, lt-leb _ _ c.before.if-sum-gt-LIMIT.true)
 
-returns-2 : tie.Need-returns-2
+returns-2 : tie.Need-returns
 unfolding with_digit
-returns-2 c = rw (c.wrapping_add_usize.ensures, le-leb _ _ c.before.if1.false)
+returns-2 c = rw (c.wrapping_add_usize.ensures, le-leb _ _ c.before.if-sum-gt-LIMIT.false)
 
-pub with-digit-spec : {M : Type 1} → statement M
-with-digit-spec =
+pub with_digit_spec : {M : Type 1} → statement M
+with_digit_spec =
     tie.close (tie.spec (λ c. search rules) (λ c. search rules) (λ c κs. search rules) returns (λ c κs. search rules) returns-2)
