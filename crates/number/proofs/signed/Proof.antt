@@ -1,3 +1,4 @@
+-- turned
 -- `number::signed` meets its contract: a size up to 2^40 fits, and so does its opposite. Assumes nothing.
 use mathlib.Core.Path.{◌≡◌}
 use Prim.Native.Nat.{ℕ, zero, suc, ◌≤◌, ◌^◌}
@@ -21,14 +22,14 @@ is-size n h = to_z_pos w64 {n = n} (omega arith)
 is-less : (n : ℕ) → n ≤ 2 ^ 40 → pos 0 -ℤ to_z w64 n ≡ neg_ℤ (pos n)
 is-less n h = rw (is-size n h, +ℤ_idl (neg_ℤ (pos n)))
 
-sub-result : tie.Need-overflow-sub-result
+sub-result : tie.Need-overflow_sub-result
 sub-result c = rw (is-less _ c.before.requires) (opposite-fits _ c.before.requires)
 
-returns : tie.Need-returns
-returns c = rw (eq-eqb _ _ c.if1.true, is-less _ c.before.requires) (to_z-of_z (opposite-fits _ c.before.requires))
+returns : tie.Need-returns-then-minus-eq1
+returns c = rw (eq-eqb _ _ c.if-minus-eq1.true, is-less _ c.before.requires) (to_z-of_z (opposite-fits _ c.before.requires))
 
-returns-2 : tie.Need-returns-2
-returns-2 c = rw (ne_eqb _ _ c.if1.false) (is-size _ c.before.requires)
+returns-2 : tie.Need-returns
+returns-2 c = rw (ne_eqb _ _ c.if-minus-eq1.false) (is-size _ c.before.requires)
 
-pub signed-spec : {M : Type 1} → statement M
-signed-spec = tie.close (tie.spec (λ c. search rules) sub-result returns returns-2)
+pub signed_spec : {M : Type 1} → statement M
+signed_spec = tie.close (tie.spec (λ c. search rules) sub-result returns returns-2)
