@@ -1,3 +1,4 @@
+-- turned
 -- `past-k` says that the first k questions were answered with yes at a place behind them, so that the rest decides. Each way out is the next
 -- question's no, or a yes to all. Assumes nothing.
 use mathlib.Core.Path.{◌≡◌, sym, ◌∙◌}
@@ -8,7 +9,7 @@ use native.Mathlib.Omega.{arith}
 use lib.Dec.{lit≤}
 use lib.ListN.{drop, length}
 use borrow.Author.Rules.{rules}
-use borrow.Author.Tests.{eq-eqb, ne_eqb, not-true, not-false}
+use borrow.Author.Tests.{eq-eqb, ne_eqb}
 use Rattle.rules.specs.Questions.{Question, first_no}
 use Rattle.rules.specs.Master.{set_of, size_questions, length_questions}
 use Rattle.rules.proofs.Questions.{yes_to, no_to, first_no_lem, first_yes}
@@ -20,10 +21,10 @@ use Rattle.master_questions.proofs.master_questions.Statement.{statement}
 use Rattle.master_questions.proofs.master_questions.Tie as tie
 
 -- places of the code: the entry, from behind the first questions and from behind the states'
-abbrev start : tie.Else1 → tie.Start
+abbrev start : tie.Else-number-ne0 → tie.Start
 start c = c.before.before
 
-abbrev begun : tie.Else3 → tie.Else1
+abbrev begun : tie.Else-end-m → tie.Else-number-ne0
 begun c = c.before.before
 
 -- what was asked
@@ -38,61 +39,61 @@ size p = size_questions p.args.order (length p.args.waypoints.now)
 abbrev Past : ℕ → tie.Start → Type 0
 Past k p = first_no (asked p) ≡ first_no (drop k (asked p))
 
-all_yes : (c : tie.Else1) → first_no (size (start c)) ≡ 0
-all_yes c = sym c.before.size_questions.ensures ∙ c.if1.false
+all_yes : (c : tie.Else-number-ne0) → first_no (size (start c)) ≡ 0
+all_yes c = sym c.before.size_questions-number.ensures ∙ c.if-number-ne0.false
 
-past-3 : (c : tie.Else1) → Past 3 (start c)
+past-3 : (c : tie.Else-number-ne0) → Past 3 (start c)
 unfolding questions_before size_questions length_questions
 past-3 c = first_yes (size (start c)) (drop 3 (asked (start c))) tt (all_yes c)
 
-past-4 : (c : tie.Else2) → Past 4 (start c.before)
+past-4 : (c : tie.Else-start-m) → Past 4 (start c.before)
 unfolding questions_before size_questions length_questions
-past-4 c = past-3 c.before ∙ yes_to _ _ (eq-eqb _ _ c.if2.false)
+past-4 c = past-3 c.before ∙ yes_to _ _ (eq-eqb _ _ c.if-start-m.false)
 
-past-5 : (c : tie.Else3) → Past 5 (start (begun c))
+past-5 : (c : tie.Else-end-m) → Past 5 (start (begun c))
 unfolding questions_before size_questions length_questions
-past-5 c = past-4 c.before ∙ yes_to _ _ (eq-eqb _ _ c.if3.false)
+past-5 c = past-4 c.before ∙ yes_to _ _ (eq-eqb _ _ c.if-end-m.false)
 
-past-6 : (c : tie.Else4) → Past 6 (start (begun c.before.before))
+past-6 : (c : tie.Else-not-fits) → Past 6 (start (begun c.before.before))
 unfolding questions_before size_questions length_questions
-past-6 c = past-5 c.before.before ∙ yes_to _ _ (not-false _ c.if4.false)
+past-6 c = past-5 c.before.before ∙ yes_to _ _ (eq-eqb _ _ c.if-not-fits.false)
 
 -- behind the first questions the order and the number of points are small
-order_bounds : (c : tie.Else1) → let order = (start c).args.order in (3 ≤ order) × (order ≤ 7)
+order_bounds : (c : tie.Else-number-ne0) → let order = (start c).args.order in (3 ≤ order) × (order ≤ 7)
 order_bounds c = by_order (λ order. (3 ≤ order) × (order ≤ 7)) (lit≤ tt, lit≤ tt) (lit≤ tt, lit≤ tt) (lit≤ tt, lit≤ tt) _ (sized (all_yes c)).valid
 
-table_bound : (c : tie.Else1) → let a = (start c).args in (length a.waypoints.now - 1) * (a.order + 1) ≤ 256 * 8
+table_bound : (c : tie.Else-number-ne0) → let a = (start c).args in (length a.waypoints.now - 1) * (a.order + 1) ≤ 256 * 8
 table_bound c = let h = order_bounds c in let k = (sized (all_yes c)).most in mul-le-mul {n₂ = 256} {m₂ = 8} (omega arith) (omega arith)
 
-returns : tie.Need-returns
+returns : tie.Need-returns-then-number-ne0
 unfolding questions_before size_questions length_questions
 returns c =
     let p = c.before.before in
-    let answer = c.before.size_questions.ensures in
-    answer ∙ sym (first_no_lem (size p) (drop 3 (asked p)) (λ e. c.if1.true (answer ∙ e)))
+    let answer = c.before.size_questions-number.ensures in
+    answer ∙ sym (first_no_lem (size p) (drop 3 (asked p)) (λ e. c.if-number-ne0.true (answer ∙ e)))
 
-returns-2 : tie.Need-returns-2
+returns-2 : tie.Need-returns-then-start-m
 unfolding questions_before size_questions length_questions
-returns-2 c = sym (past-3 c.before ∙ no_to _ (ne_eqb _ _ c.if2.true))
+returns-2 c = sym (past-3 c.before ∙ no_to _ (ne_eqb _ _ c.if-start-m.true))
 
-returns-3 : tie.Need-returns-3
+returns-3 : tie.Need-returns-then-end-m
 unfolding questions_before size_questions length_questions
-returns-3 c = sym (past-4 c.before ∙ no_to _ (ne_eqb _ _ c.if3.true))
+returns-3 c = sym (past-4 c.before ∙ no_to _ (ne_eqb _ _ c.if-end-m.true))
 
-returns-4 : tie.Need-returns-4
+returns-4 : tie.Need-returns-then-not-fits
 unfolding questions_before size_questions length_questions
-returns-4 c = sym (past-5 c.before.before ∙ no_to _ (not-true _ c.if4.true))
+returns-4 c = sym (past-5 c.before.before ∙ no_to _ (ne_eqb _ _ c.if-not-fits.true))
 
-returns-5 : tie.Need-returns-5
+returns-5 : tie.Need-returns-then-not-in_range
 unfolding questions_before size_questions length_questions
-returns-5 c = sym (past-6 c.before ∙ no_to _ (no c.before.before.given_within.ensures c.if5.true))
+returns-5 c = sym (past-6 c.before ∙ no_to _ (no c.before.before.given_within-in_range.ensures c.if-not-in_range.true))
 
-returns-6 : tie.Need-returns-6
+returns-6 : tie.Need-returns
 unfolding questions_before size_questions length_questions first_no
-returns-6 c = sym (past-6 c.before ∙ yes_to 4 [] (yes c.before.before.given_within.ensures c.if5.false))
+returns-6 c = sym (past-6 c.before ∙ yes_to 4 [] (yes c.before.before.given_within-in_range.ensures c.if-not-in_range.false))
 
-pub master-questions-spec : {M : Type 1} → statement M
-master-questions-spec =
+pub master_questions_spec : {M : Type 1} → statement M
+master_questions_spec =
     tie.close
     (tie.spec
     (λ c κs. search rules)
