@@ -1,3 +1,4 @@
+-- turned
 -- `master_equations::meets` compares one place after the other. The loop's invariant: those before r are the same. Assumes nothing.
 use mathlib.Core.Path.{◌≡◌, refl, sym}
 use mathlib.Core.Bool.{true}
@@ -10,30 +11,30 @@ use Rattle.master_equations.proofs.Tests.{one_differs, one_more}
 use Rattle.master_equations.proofs.meets.Statement.{statement}
 use Rattle.master_equations.proofs.meets.Tie as tie
 
-abbrev invariant-loop : tie.invariant-loop
+abbrev invariant-loop : tie.invariant-loop-r
 invariant-loop sums numbers from count r₀ r = (r ≤ count) × (meets_at sums numbers from r ≡ true)
 
-abbrev decreases-loop : tie.decreases-loop
+abbrev decreases-loop : tie.decreases-loop-r
 decreases-loop sums numbers from count r₀ r = count - r
 
-loop-holds : tie.Need-loop-init invariant-loop decreases-loop
+loop-holds : tie.Need-loop-r-init invariant-loop decreases-loop
 unfolding meets_at every
 loop-holds c = (omega arith, refl)
 
-returns : tie.Need-returns invariant-loop decreases-loop
-returns c = let w = c.before.before.before in sym (one_differs _ _ _ _ _ w.loop-test.true c.if1.true)
+returns : tie.Need-returns-then-sums-r invariant-loop decreases-loop
+returns c = let w = c.before.before.before in sym (one_differs _ _ _ _ _ w.loop-r-test.true c.if-sums-r.true)
 
-loop-again : tie.Need-loop-preserved invariant-loop decreases-loop
+loop-again : tie.Need-loop-r-preserved invariant-loop decreases-loop
 loop-again c = (
   omega arith,
-  one_more _ _ _ _ c.before.before.before.before.loop.invariant.1 c.before.before.if12.given c.before.if13.given c.if1.false,
+  one_more _ _ _ _ c.before.before.before.before.loop-r.invariant.1 c.before.before.t10-1.given c.before.t14-1.given c.if-sums-r.false,
 )
 
-returns-2 : tie.Need-returns-2 invariant-loop decreases-loop
-returns-2 c = let e : c.before.loop.r ≡ c.before.before.args.count = omega arith in sym (rw e at c.before.loop.invariant.1)
+returns-2 : tie.Need-returns invariant-loop decreases-loop
+returns-2 c = let e : c.before.loop-r.r ≡ c.before.before.args.count = omega arith in sym (rw e at c.before.loop-r.invariant.1)
 
-pub meets-spec : {M : Type 1} → statement M
-meets-spec =
+pub meets_spec : {M : Type 1} → statement M
+meets_spec =
     tie.close
     (tie.spec
     invariant-loop

@@ -1,3 +1,4 @@
+-- turned
 -- The first segment starts where the table does. Assumes nothing.
 use mathlib.Core.Path.{sym, ◌∙◌}
 use borrow.Author.Rules.{rules}
@@ -8,5 +9,5 @@ use Rattle.master_equations.proofs.meets_start.Tie as tie
 returns : tie.Need-returns
 returns c segments = c.meets.ensures ∙ sym (start_as_made _ segments _ _)
 
-pub meets-start-spec : {M : Type 1} → statement M
-meets-start-spec = tie.close (tie.spec (λ c κs. search rules) returns)
+pub meets_start_spec : {M : Type 1} → statement M
+meets_start_spec = tie.close (tie.spec (λ c κs. search rules) returns)
