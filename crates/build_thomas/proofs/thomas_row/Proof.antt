@@ -1,3 +1,4 @@
+-- turned
 -- `build_thomas::thomas_row` meets its contract: the sides are solved, the nodes' numbers found from them, and the segments
 -- written from those. Assumes nothing.
 use mathlib.Core.Path.{◌≡◌, ap, ◌∙◌}
@@ -23,30 +24,30 @@ use Rattle.build_thomas.proofs.thomas_row.Tie as tie
 
 -- ---- places: the entry, behind the tables, and behind the three calls
 
-abbrev start : tie.After-h-coeff → tie.Start
+abbrev start : tie.After-h_coeff-1 → tie.Start
 start c = c.before.before.before.before.before.before.before.before.before.before.before
 
-abbrev tabled : tie.After-forward-sweep-arg4 → tie.After-h-coeff
-tabled c = c.before.before.before.before.before.before.before.before
+abbrev tabled : tie.After-forward_sweep-arg-4-1 → tie.After-h_coeff-1
+tabled c = c.before.before.before.before.before
 
-abbrev forth : tie.After-back-sweep-arg → tie.After-forward-sweep
+abbrev forth : tie.After-back_sweep-arg-1 → tie.After-forward_sweep
 forth c = c.before.before.before.before.before
 
-abbrev back : tie.After-write-segments-arg3 → tie.After-back-sweep
-back c = c.before.before.before.before.before.before.before
+abbrev back : tie.After-write_segments-arg-2-1 → tie.After-back_sweep
+back c = c.before.before.before.before.before
 
 -- the list of the inner nodes is as long as it was
-same-solved : (c : tie.After-write-segments-arg3)
-    → length (back c).back_sweep.new.1.1.1.1.0 ≡ length (start (tabled (forth (back c).before).before)).args.solved.now
-same-solved c = omega (arith, c.before.before.before.before.before.solved2.given, (back c).before.before.before.before.solved.given)
+same-solved : (c : tie.After-write_segments-arg-2-1)
+    → length (back c).back_sweep.new.solved ≡ length (start (tabled (forth (back c).before).before)).args.solved.now
+same-solved c = omega (arith, c.before.before.before.solved-2-1.given, (back c).before.before.before.before.solved-1.given)
 
 few : (p : tie.Start) → p.args.plan.m ≤ 3
 few p = p.requires.few
 
-forward-sweep-requires : tie.Need-forward-sweep-requires
+forward-sweep-requires : tie.Need-forward_sweep-requires
 forward-sweep-requires c κs =
     let p = start (tabled c) in
-    let lent = p.pre in
+    let lent = p.requires in
     record {
       some = lent.some;
       holds_r = r_lent lent.tables;
@@ -59,18 +60,18 @@ forward-sweep-requires c κs =
       solved_room = lent.solved_room;
     }
 
-back-sweep-requires : tie.Need-back-sweep-requires
+back-sweep-requires : tie.Need-back_sweep-requires
 back-sweep-requires c κs =
     let f = forth c in
     let p = start (tabled f.before) in
-    (p.pre.some, p.pre.solved_c, start_length p.args.plan.m _ (few p), omega (arith, p.pre.solved_room, c.before.before.before.solved.given))
+    (p.requires.some, p.requires.solved_c, start_length p.args.plan.m _ (few p), omega (arith, p.requires.solved_room, c.before.before.before.solved-1.given))
 
-write-segments-requires : tie.Need-write-segments-requires
+write-segments-requires : tie.Need-write_segments-requires
 write-segments-requires c κs =
     let b = back c in
     let f = forth b.before in
     let p = start (tabled f.before) in
-    let lent = p.pre in
+    let lent = p.requires in
     record {
       some = lent.some;
       holds_h = h_lent lent.tables;
@@ -100,8 +101,8 @@ returns c =
     (ap (take (n * m)) f.forward_sweep.ensures
     ∙ take_at (joined n sides) _ (n * m) (length-joined n m sides (λ j l. length-solved_side m n w first last j))))
 
-pub thomas-row-spec : {M : Type 1} → statement M
-thomas-row-spec =
+pub thomas_row_spec : {M : Type 1} → statement M
+thomas_row_spec =
     tie.close
     (tie.spec
     (λ c. omega (arith, matrix_small (start c).args.plan.m (few (start c))))
@@ -112,16 +113,16 @@ thomas-row-spec =
     (λ c. search rules)
     (λ c. search rules)
     (λ c. search rules)
-    (λ c. r_room (start c.before).requires.tables)
+    (λ c. r_room (start c).requires.tables)
     (λ c. search rules)
     (λ c. search rules)
-    (λ c. a_room (start c.before.before.before).requires.tables)
+    (λ c. a_room (start c.before).requires.tables)
     (λ c. search rules)
     (λ c. search rules)
-    (λ c. c_room (start c.before.before.before.before.before).requires.tables)
+    (λ c. c_room (start c.before.before).requires.tables)
     (λ c. search rules)
     (λ c. search rules)
-    (λ c. omega (arith, few (start c.before.before.before.before.before.before)))
+    (λ c. omega (arith, few (start c.before.before.before)))
     forward-sweep-requires
     (λ c. search rules)
     (λ c. search rules)
@@ -129,7 +130,7 @@ thomas-row-spec =
     back-sweep-requires
     (λ c. search rules)
     (λ c. search rules)
-    (λ c. h_room (start (tabled (forth c.before.before.before.before.before).before)).requires.tables)
+    (λ c. h_room (start (tabled (forth c.before.before.before.before).before)).requires.tables)
     write-segments-requires
     (λ c. same-solved c.before.before.before)
     (λ c. search rules)
