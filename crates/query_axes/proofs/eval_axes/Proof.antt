@@ -1,3 +1,4 @@
+-- turned
 -- The loop's invariant: each buffer that the level writes holds its derivative of the axes below `axis`. Assumes nothing.
 use mathlib.Core.Path.{◌≡◌, ap, ◌∙◌}
 use mathlib.Core.Bool.{Bool, true}
@@ -28,34 +29,34 @@ record Run (f : ℕ → ℕ → Float) (level axes : ℕ) (q₀ dq₀ ddq₀ ddd
   pub is_ddq : Written (writes level 2) axis (f 2) ddq₀ ddq
   pub is_dddq : Written (writes level 3) axis (f 3) dddq₀ dddq
 
-abbrev invariant-loop : tie.invariant-loop
+abbrev invariant-loop : tie.invariant-loop-axis
 invariant-loop coeffs segment level q₀ dq₀ ddq₀ dddq₀ order segments axes inv-ds t inv-ds2 inv-ds3 axis₀ q dq ddq dddq axis =
     Run (cell order segments inv-ds coeffs segment t) level axes q₀ dq₀ ddq₀ dddq₀ q dq ddq dddq axis
 
-abbrev decreases-loop : tie.decreases-loop
+abbrev decreases-loop : tie.decreases-loop-axis
 decreases-loop coeffs segment level q₀ dq₀ ddq₀ dddq₀ order segments axes inv-ds t inv-ds2 inv-ds3 axis₀ q dq ddq dddq axis = axes - axis
 
 -- a turn of the loop, from itself and from behind each of its calls
 abbrev Turn : Type 0
-Turn = tie.In-loop invariant-loop decreases-loop
+Turn = tie.In-loop-axis invariant-loop decreases-loop
 
-abbrev evaluating : tie.After-eval-poly invariant-loop decreases-loop → Turn
+abbrev evaluating : tie.After-eval_poly-d invariant-loop decreases-loop → Turn
 evaluating d = d.before.before
 
-abbrev evaluated-at : tie.After-put invariant-loop decreases-loop → tie.After-eval-poly invariant-loop decreases-loop
+abbrev evaluated-at : tie.After-put invariant-loop decreases-loop → tie.After-eval_poly-d invariant-loop decreases-loop
 evaluated-at c = c.before.before.before
 
-abbrev first-put : tie.After-put2 invariant-loop decreases-loop → tie.After-put invariant-loop decreases-loop
+abbrev first-put : tie.After-put-in-loop-axis invariant-loop decreases-loop → tie.After-put invariant-loop decreases-loop
 first-put c = c.before.before.before.before.before
 
-abbrev second-put : tie.After-put3 invariant-loop decreases-loop → tie.After-put2 invariant-loop decreases-loop
+abbrev second-put : tie.After-put-in-loop-axis-2 invariant-loop decreases-loop → tie.After-put-in-loop-axis invariant-loop decreases-loop
 second-put c = c.before.before.before.before.before
 
-abbrev ending : tie.After-put3 invariant-loop decreases-loop → Turn
+abbrev ending : tie.After-put-in-loop-axis-2 invariant-loop decreases-loop → Turn
 ending c = evaluating (evaluated-at (first-put (second-put c)))
 
 -- what the caller promised, and what it says of the places of an axis
-abbrev begun : tie.At-loop invariant-loop decreases-loop → tie.Start invariant-loop decreases-loop
+abbrev begun : tie.At-loop-axis invariant-loop decreases-loop → tie.Start invariant-loop decreases-loop
 begun c = c.before.before.before.before.before.before
 
 module _ (c : Turn) where
@@ -63,7 +64,7 @@ module _ (c : Turn) where
   start = begun c.before
 
   abbrev axis : ℕ
-  axis = c.before.loop.axis
+  axis = c.before.loop-axis.axis
 
   abbrev count : ℕ
   count = start.args.path.order + 1
@@ -78,39 +79,39 @@ module _ (c : Turn) where
   table = start.args.coeffs.now
 
   few : count ≤ 8
-  few = let b = order_bound start.pre in omega (arith, b)
+  few = let b = order_bound start.requires in omega (arith, b)
 
   inside : axis * start.args.path.segments + start.args.segment < 2048
-  inside = lt_of_lt_of_le (segment_inside start.pre c.loop-test.true) (segments_bound start.pre)
+  inside = lt_of_lt_of_le (segment_inside start.requires c.loop-axis-test.true) (segments_bound start.requires)
 
   place_inside : place + count ≤ length table
-  place_inside = rw start.pre.table (part_inside_all start.pre c.loop-test.true)
+  place_inside = rw start.requires.table (part_inside_all start.requires c.loop-axis-test.true)
 
   small : place + count ≤ 16384
-  small = le_trans (part_inside_all start.pre c.loop-test.true) (table_bound start.pre)
+  small = le_trans (part_inside_all start.requires c.loop-axis-test.true) (table_bound start.requires)
 
   -- the cell of this axis is inside, in a buffer that is as long as the axes
   room-q : axis < length start.args.q.now
-  room-q = rw start.pre.q c.loop-test.true
+  room-q = rw start.requires.q c.loop-axis-test.true
 
   room : {w : Bool} {n : ℕ} → (w ≡ true → n ≡ start.args.path.axes) → w ≡ true → axis < n
-  room e t = rw (e t) c.loop-test.true
+  room e t = rw (e t) c.loop-axis-test.true
 
   -- the derivatives of this axis
   abbrev derivatives : ℕ → Float
   derivatives = eval_poly start.args.path.order (take count (drop place table)) start.args.tau.0
 
-evaluated : (d : tie.After-eval-poly invariant-loop decreases-loop) → let i = evaluating d in d.eval_poly.result ≡ asked (start i).args.level (derivatives i)
+evaluated : (d : tie.After-eval_poly-d invariant-loop decreases-loop) → let i = evaluating d in d.eval_poly-d.result ≡ asked (start i).args.level (derivatives i)
 evaluated d =
     let i = evaluating d in
     let a = (start i).args in
-    d.eval_poly.ensures
+    d.eval_poly-d.ensures
     ∙ ap (λ (part : List Float). asked a.level (eval_poly a.path.order part a.tau.0)) (part_size (place i) (count i) (table i))
 
-loop-holds : tie.Need-loop-init invariant-loop decreases-loop
+loop-holds : tie.Need-loop-axis-init invariant-loop decreases-loop
 loop-holds c = record { below = omega arith; is_q = Fills.none _ _; is_dq = Axes.none _ _ _; is_ddq = Axes.none _ _ _; is_dddq = Axes.none _ _ _ }
 
-eval-poly-requires : tie.Need-eval-poly-requires invariant-loop decreases-loop
+eval-poly-requires : tie.Need-eval_poly-d-requires invariant-loop decreases-loop
 eval-poly-requires c κs =
     let i = c.before in
     let h = (start i).requires in
@@ -118,22 +119,22 @@ eval-poly-requires c κs =
     (h.order, h.known_level, ap length (part_size (place i) (count i) (table i)) ∙ long)
 
 put-requires : tie.Need-put-requires invariant-loop decreases-loop
-put-requires c κs = let i = evaluating c.before.before in rw (Axes.kept i.before.loop.inv.is_dq) (room i (start i).pre.dq)
+put-requires c κs = let i = evaluating c.before.before in rw (Axes.kept i.before.loop-axis.invariant.is_dq) (room i (start i).requires.dq)
 
-put-requires-2 : tie.Need-put-requires-2 invariant-loop decreases-loop
+put-requires-2 : tie.Need-put-requires-in-loop-axis invariant-loop decreases-loop
 put-requires-2 c κs =
     let i = evaluating (evaluated-at c.before.before.before.before) in
-    rw (Axes.kept i.before.loop.inv.is_ddq) (room i (start i).pre.ddq)
+    rw (Axes.kept i.before.loop-axis.invariant.is_ddq) (room i (start i).requires.ddq)
 
-put-requires-3 : tie.Need-put-requires-3 invariant-loop decreases-loop
+put-requires-3 : tie.Need-put-requires-in-loop-axis-2 invariant-loop decreases-loop
 put-requires-3 c κs =
     let i = evaluating (evaluated-at (first-put c.before.before.before.before)) in
-    rw (Axes.kept i.before.loop.inv.is_dddq) (room i (start i).pre.dddq)
+    rw (Axes.kept i.before.loop-axis.invariant.is_dddq) (room i (start i).requires.dddq)
 
-add-axis : tie.Need-overflow-add-axis invariant-loop decreases-loop
-add-axis c = let i = ending c.before.before in record { fits = omega (arith, i.loop-test.taken, (start i).pre.few_axes) }
+add-axis : tie.Need-overflow_add-axis invariant-loop decreases-loop
+add-axis c = let i = ending c.before.before in record { fits = omega (arith, i.loop-axis-test.true, (start i).requires.few_axes) }
 
-loop-again : tie.Need-loop-preserved invariant-loop decreases-loop
+loop-again : tie.Need-loop-axis-preserved invariant-loop decreases-loop
 unfolding per_unit_of_s
 loop-again c =
     let third = c.before.before in
@@ -141,26 +142,26 @@ loop-again c =
     let first = first-put second in
     let d = evaluated-at first in
     let i = evaluating d in
-    let done = i.before.loop.inv in
-    let h = (start i).pre in
+    let done = i.before.loop-axis.invariant in
+    let h = (start i).requires in
     let is = evaluated d in
     let dq = asked_for (ap (λ (x : Derivatives). x.dq) is) in
     let ddq = asked_for (ap (λ (x : Derivatives). x.ddq) is) in
     let dddq = asked_for (ap (λ (x : Derivatives). x.dddq) is) in
     record {
-      below = omega (arith, i.loop-test.taken);
+      below = omega (arith, i.loop-axis-test.true);
       is_q = Fills.step done.is_q (ap (λ (x : Derivatives). x.q) is) (room-q i);
       is_dq = Axes.step done.is_dq (λ w. ap (λ (x : Float). x ⊗ inv i) (dq w)) (room i h.dq) first.put.ensures;
-      is_ddq = Axes.step done.is_ddq (λ w. ap (λ (x : Float). x ⊗ (inv i ⊗ inv i)) (ddq w)) (room i h.ddq) second.put2.ensures;
-      is_dddq = Axes.step done.is_dddq (λ w. ap (λ (x : Float). x ⊗ (inv i ⊗ inv i ⊗ inv i)) (dddq w)) (room i h.dddq) third.put3.ensures;
+      is_ddq = Axes.step done.is_ddq (λ w. ap (λ (x : Float). x ⊗ (inv i ⊗ inv i)) (ddq w)) (room i h.ddq) second.put-in-loop-axis.ensures;
+      is_dddq = Axes.step done.is_dddq (λ w. ap (λ (x : Float). x ⊗ (inv i ⊗ inv i ⊗ inv i)) (dddq w)) (room i h.dddq) third.put-in-loop-axis-2.ensures;
     }
 
 returns : tie.Need-returns invariant-loop decreases-loop
 unfolding derivative_at segment_of
 returns c =
-    let done = c.before.loop.invariant in
-    let h = (begun c.before).pre in
-    let l = c.loop-test.false in
+    let done = c.before.loop-axis.invariant in
+    let h = (begun c.before).requires in
+    let l = c.loop-axis-test.false in
     record {
       is_q = Fills.whole done.is_q h.q l;
       is_dq = Axes.whole done.is_dq h.dq l;
@@ -168,8 +169,8 @@ returns c =
       is_dddq = Axes.whole done.is_dddq h.dddq l;
     }
 
-pub eval-axes-spec : {M : Type 1} → statement M
-eval-axes-spec =
+pub eval_axes_spec : {M : Type 1} → statement M
+eval_axes_spec =
     tie.close
     (tie.spec
     invariant-loop
@@ -186,16 +187,16 @@ eval-axes-spec =
     (λ c. search rules)
     (λ c. place_inside c)
     eval-poly-requires
-    (λ c. let i = evaluating c in let h = room-q i in let l = (start i).pre.few_axes in search rules)
-    (λ c. let i = evaluating c in rw (Fills.kept i.before.loop.inv.is_q) (room-q i))
+    (λ c. let i = evaluating c in let h = room-q i in let l = (start i).requires.few_axes in search rules)
+    (λ c. let i = evaluating c in rw (Fills.kept i.before.loop-axis.invariant.is_q) (room-q i))
     put-requires
     put-requires-2
     put-requires-3
     add-axis
-    (λ c. omega (arith, (ending c.before.before).loop-test.taken))
+    (λ c. omega (arith, (ending c.before.before).loop-axis-test.true))
     loop-again
-    (λ c. Fills.kept c.before.loop.invariant.is_q)
-    (λ c. Axes.kept c.before.loop.invariant.is_dq)
-    (λ c. Axes.kept c.before.loop.invariant.is_ddq)
-    (λ c. Axes.kept c.before.loop.invariant.is_dddq)
+    (λ c. Fills.kept c.before.loop-axis.invariant.is_q)
+    (λ c. Axes.kept c.before.loop-axis.invariant.is_dq)
+    (λ c. Axes.kept c.before.loop-axis.invariant.is_ddq)
+    (λ c. Axes.kept c.before.loop-axis.invariant.is_dddq)
     returns)

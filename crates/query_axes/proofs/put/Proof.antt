@@ -1,3 +1,4 @@
+-- turned
 -- The cell is set exactly where the level writes derivative k. Assumes nothing.
 use Prim.Native.Nat.{◌<◌}
 use lib.ListN.{length}
@@ -7,14 +8,14 @@ use Rattle.query_axes.proofs.put.Statement.{statement}
 use Rattle.query_axes.proofs.put.Tie as tie
 
 -- the cell is inside, where the level writes
-inside : (c : tie.Then1) → c.before.args.axis < length c.before.args.cells.now
-inside c = c.before.requires (le-leb _ _ c.if1.true)
+inside : (c : tie.Then-k-level) → c.before.args.axis < length c.before.args.cells.now
+inside c = c.before.requires (le-leb _ _ c.if-k-level.true)
 
-returns : tie.Need-returns
-returns c = rw (le-leb _ _ c.if1.true)
+returns : tie.Need-returns-then-k-level
+returns c = rw (le-leb _ _ c.if-k-level.true)
 
-returns-2 : tie.Need-returns-2
-returns-2 c = rw (lt-leb _ _ c.if1.false)
+returns-2 : tie.Need-returns-else-k-level
+returns-2 c = rw (lt-leb _ _ c.if-k-level.false)
 
 pub put_spec : {M : Type 1} → statement M
 put_spec =
