@@ -1,3 +1,4 @@
+-- turned
 -- `sheet_counts::count` meets its contract. Assumes nothing.
 use Rattle.sheet_counts.proofs.Readings.{count_says}
 use borrow.Author.Rules.{rules}
@@ -6,7 +7,7 @@ use Rattle.sheet_counts.proofs.count.Tie as tie
 
 returns : tie.Need-returns
 returns c =
-    let p = c.before.positive in
+    let p = c.positive in
     let (says, (inside, small)) = p.ensures in
     rw c.limited.ensures (count_says _ _ p.result says inside small)
 

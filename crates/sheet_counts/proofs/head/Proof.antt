@@ -1,3 +1,4 @@
+-- turned
 -- `sheet_counts::head` meets its contract. Assumes nothing.
 use Prim.{tt}
 use mathlib.Core.Path.{sym, ap, ◌∙◌}
@@ -11,18 +12,18 @@ use Rattle.sheet_counts.proofs.head.Statement.{statement}
 use Rattle.sheet_counts.proofs.head.Tie as tie
 
 spaced-requires : tie.Need-spaced-requires
-spaced-requires c κs = let a = passed_inside _ _ c.before.opened2.given.1 _ _ c.before.before.before.word.ensures.1 in omega arith
+spaced-requires c κs = let a = passed_inside _ _ c.in-To.is _ _ c.word-opened.ensures.1 in omega arith
 
-returns : tie.Need-returns
+returns : tie.Need-returns-in-Stop
 returns c =
-    let e = c.before.opened.given.1 in
-    let (says, place) = c.before.before.before.word.ensures in
+    let e = c.in-Stop.is in
+    let (says, place) = c.word-opened.ensures in
     (sym (head_stop _ _ _ (sym says ∙ ap (passed_of _) e)), (passed_stop _ _ _ e _ _ place, tt))
 
-returns-2 : tie.Need-returns-2
+returns-2 : tie.Need-returns-in-To
 returns-2 c =
-    let e = c.before.before.opened2.given.1 in
-    let (says, place) = c.before.before.before.before.word.ensures in
+    let e = c.in-To.is in
+    let (says, place) = c.word-opened.ensures in
     let (on, (inside, small)) = c.spaced.ensures in
     let a = passed_inside _ _ e _ _ place in
     (on ∙ sym (head_on _ _ (sym says ∙ ap (passed_of _) e)), (counted_less c.spaced.result _ _ _ a.0 inside, small))
