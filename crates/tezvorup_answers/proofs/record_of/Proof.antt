@@ -1,3 +1,4 @@
+-- turned
 -- `tezvorup_answers::record_of` meets its contract: the record is made field by field. Assumes nothing.
 use borrow.Author.Rules.{rules}
 use Rattle.tezvorup_answers.proofs.record_of.Statement.{statement}
@@ -6,5 +7,5 @@ use Rattle.tezvorup_answers.proofs.record_of.Tie as tie
 returns : tie.Need-returns
 returns c = rw c.mode_number.ensures
 
-pub record-of-spec : {M : Type 1} → statement M
-record-of-spec = tie.close (tie.spec (λ c κs. search rules) returns)
+pub record_of_spec : {M : Type 1} → statement M
+record_of_spec = tie.close (tie.spec (λ c κs. search rules) returns)

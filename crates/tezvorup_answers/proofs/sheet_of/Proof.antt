@@ -1,3 +1,4 @@
+-- turned
 -- `tezvorup_answers::sheet_of` meets its contract: number and place, and the record beside them. Assumes nothing.
 use borrow.Author.Rules.{rules}
 use Rattle.tezvorup_answers.proofs.sheet_of.Statement.{statement}
@@ -6,5 +7,5 @@ use Rattle.tezvorup_answers.proofs.sheet_of.Tie as tie
 returns : tie.Need-returns
 returns c = rw c.record_of.ensures
 
-pub sheet-of-spec : {M : Type 1} → statement M
-sheet-of-spec = tie.close (tie.spec (λ c κs. search rules) returns)
+pub sheet_of_spec : {M : Type 1} → statement M
+sheet_of_spec = tie.close (tie.spec (λ c κs. search rules) returns)
