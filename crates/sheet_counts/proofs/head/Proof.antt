@@ -29,4 +29,10 @@ returns-2 c =
     (on ∙ sym (head_on _ _ (sym says ∙ ap (passed_of _) e)), (counted_less c.spaced.result _ _ _ a.0 inside, small))
 
 pub head_spec : {M : Type 1} → statement M
-head_spec = tie.close (tie.spec (λ c. search rules) (λ c κs. search rules) (λ c. search rules) (λ c. search rules) spaced-requires returns returns-2)
+head_spec = tie.close (tie.spec
+    (λ c κs. search rules)
+    (λ c. search rules)
+    (λ c. search rules)
+    spaced-requires
+    returns
+    returns-2)
