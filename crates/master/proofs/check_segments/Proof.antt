@@ -1,3 +1,4 @@
+-- turned
 -- The loop's invariant: of the segments behind it all numbers are within ±2^40, and `good` says whether their equations hold, the start state's with them.
 -- Assumes nothing.
 use mathlib.Core.Path.{◌≡◌, refl, sym, ap, ◌∙◌}
@@ -27,17 +28,17 @@ record Inv (m : ℕ) (w start end table : List ℤ) (good : Bool) (i : ℕ) : Ty
   met : good ≡ meets_up_to m w start end table i
   left : all within table ≡ all within (drop (i * (2 * m + 2)) table)
 
-abbrev invariant-loop : tie.invariant-loop
+abbrev invariant-loop : tie.invariant-loop-i
 invariant-loop m waypoints start end table segments good₀ i₀ good i = Inv m waypoints start end table good i
 
-abbrev decreases-loop : tie.decreases-loop
+abbrev decreases-loop : tie.decreases-loop-i
 decreases-loop m waypoints start end table segments good₀ i₀ good i = length waypoints - 1 - i
 
 -- places of the code: the entry, from the loop on, and a turn of the loop
-abbrev start : tie.At-loop invariant-loop decreases-loop → tie.Start invariant-loop decreases-loop
+abbrev start : tie.At-loop-i invariant-loop decreases-loop → tie.Start invariant-loop decreases-loop
 start c = c.before.before
 
-abbrev turn : tie.After-is-yes invariant-loop decreases-loop → tie.In-loop invariant-loop decreases-loop
+abbrev turn : tie.After-is_yes-good invariant-loop decreases-loop → tie.In-loop-i invariant-loop decreases-loop
 turn c = c.before.before.before.before
 
 -- no segment yet, and one more
@@ -59,68 +60,68 @@ unfolding pass_says master_says
 out_of_range m w start end table e = rw e
 
 -- behind the loop every number is in range, and `good` is the answer
-answered : (c : tie.After-loop invariant-loop decreases-loop) → let a = (start c.before).args in
-    pass_says a.m a.waypoints.now a.start.now a.end.now a.table.now ≡ record { refused = false; number = 0; good = c.before.loop.good }
+answered : (c : tie.After-loop-i invariant-loop decreases-loop) → let a = (start c.before).args in
+    pass_says a.m a.waypoints.now a.start.now a.end.now a.table.now ≡ record { refused = false; number = 0; good = c.before.loop-i.good }
 unfolding pass_says
 answered c =
-    let l = c.before.loop in
+    let l = c.before.loop-i in
     let s = start c.before in
-    let n : length s.args.waypoints.now - 1 ≡ l.i = le_antisymm c.loop-test.false l.invariant.most in
-    rw (l.invariant.left ∙ none_left s.pre.0 l.invariant.most c.loop-test.false, n, ← l.invariant.met)
+    let n : length s.args.waypoints.now - 1 ≡ l.i = le_antisymm c.loop-i-test.false l.invariant.most in
+    rw (l.invariant.left ∙ none_left s.requires.0 l.invariant.most c.loop-i-test.false, n, ← l.invariant.met)
 
-meets-start-requires : tie.Need-meets-start-requires invariant-loop decreases-loop
+meets-start-requires : tie.Need-meets_start-good-requires invariant-loop decreases-loop
 meets-start-requires c κs =
     let two = c.requires.0.least in
     let h = segment_inside c.requires.0 {i = 0} (omega arith) in
     (omega (arith, c.requires.1), omega (arith, h))
 
-loop-holds : tie.Need-loop-init invariant-loop decreases-loop
+loop-holds : tie.Need-loop-i-init invariant-loop decreases-loop
 loop-holds c =
     let w = c.before.args.waypoints.now in
-    record { most = omega arith; met = c.meets_start.ensures (length w - 1) ∙ sym (no-segment _ w _ _ _); left = rw zero-mul }
+    record { most = omega arith; met = c.meets_start-good.ensures (length w - 1) ∙ sym (no-segment _ w _ _ _); left = rw zero-mul }
 
-check-segment-requires : tie.Need-check-segment-requires invariant-loop decreases-loop
-check-segment-requires c κs = ((start c.before).pre.0, c.loop-test.true)
+check-segment-requires : tie.Need-check_segment-answer-requires invariant-loop decreases-loop
+check-segment-requires c κs = ((start c.before).requires.0, c.loop-i-test.true)
 
 -- where a segment's answer is not a refusal
-went_on : (c : tie.Else1 invariant-loop decreases-loop) → (master_says c.before.before.check_segment.result).refused ≡ false
-went_on c = sym c.before.is_refused.ensures ∙ c.if1.false
+went_on : (c : tie.Else-is_refused invariant-loop decreases-loop) → (master_says c.before.before.check_segment-answer.result).refused ≡ false
+went_on c = sym c.before.is_refused.ensures ∙ c.if-is_refused.false
 
-returns : tie.Need-returns invariant-loop decreases-loop
+returns : tie.Need-returns-then-is_refused invariant-loop decreases-loop
 returns c =
     let said = c.before.before in
     let d = said.before in
     let s = start d.before in
-    let out = was_out _ _ _ _ _ _ said.check_segment.ensures (sym c.before.is_refused.ensures ∙ c.if1.true) in
-    said.check_segment.ensures
+    let out = was_out _ _ _ _ _ _ said.check_segment-answer.ensures (sym c.before.is_refused.ensures ∙ c.if-is_refused.true) in
+    said.check_segment-answer.ensures
     ∙ segment_out _ _ _ _ _ _ out
-    ∙ sym (out_of_range _ _ _ _ _ (d.before.loop.invariant.left ∙ left_next s.args.m s.args.table.now _ out))
+    ∙ sym (out_of_range _ _ _ _ _ (d.before.loop-i.invariant.left ∙ left_next s.args.m s.args.table.now _ out))
 
-loop-again : tie.Need-loop-preserved invariant-loop decreases-loop
+loop-again : tie.Need-loop-i-preserved invariant-loop decreases-loop
 loop-again c =
     let said = c.before.before.before in
     let d = turn c in
     let s = start d.before in
     let on = went_on c.before in
     record {
-      most = let h = d.loop-test.taken in omega arith;
+      most = let h = d.loop-i-test.true in omega arith;
       met =
-          c.is_yes.ensures
-          ∙ was_good _ _ _ _ _ _ said.check_segment.ensures on
-          ∙ one-segment-more s.args.m s.args.waypoints.now _ _ s.args.table.now _ d.before.loop.inv.met;
-      left = d.before.loop.inv.left ∙ left_next s.args.m s.args.table.now _ (was_within _ _ _ _ _ _ said.check_segment.ensures on);
+          c.is_yes-good.ensures
+          ∙ was_good _ _ _ _ _ _ said.check_segment-answer.ensures on
+          ∙ one-segment-more s.args.m s.args.waypoints.now _ _ s.args.table.now _ d.before.loop-i.invariant.met;
+      left = d.before.loop-i.invariant.left ∙ left_next s.args.m s.args.table.now _ (was_within _ _ _ _ _ _ said.check_segment-answer.ensures on);
     }
 
-returns-2 : tie.Need-returns-2 invariant-loop decreases-loop
+returns-2 : tie.Need-returns-then-good invariant-loop decreases-loop
 unfolding master_says
-returns-2 c = sym (answered c.before ∙ ap (λ (b : Bool). record { refused = false; number = 0; good = b }) c.if2.true)
+returns-2 c = sym (answered c.before ∙ ap (λ (b : Bool). record { refused = false; number = 0; good = b }) c.if-good.true)
 
-returns-3 : tie.Need-returns-3 invariant-loop decreases-loop
+returns-3 : tie.Need-returns invariant-loop decreases-loop
 unfolding master_says
-returns-3 c = sym (answered c.before ∙ ap (λ (b : Bool). record { refused = false; number = 0; good = b }) c.if2.false)
+returns-3 c = sym (answered c.before ∙ ap (λ (b : Bool). record { refused = false; number = 0; good = b }) c.if-good.false)
 
-pub check-segments-spec : {M : Type 1} → statement M
-check-segments-spec =
+pub check_segments_spec : {M : Type 1} → statement M
+check_segments_spec =
     tie.close
     (tie.spec
     invariant-loop
@@ -132,8 +133,8 @@ check-segments-spec =
     (λ c κs. search rules)
     returns
     (λ c κs. search rules)
-    (λ c. omega (arith, (turn c).loop-test.true))
-    (λ c. omega (arith, (turn c).loop-test.true))
+    (λ c. omega (arith, (turn c).loop-i-test.true))
+    (λ c. omega (arith, (turn c).loop-i-test.true))
     loop-again
     returns-2
     returns-3)
