@@ -1,3 +1,4 @@
+-- turned
 -- `query::eval_at` meets its contract. Its three ways out are a no to one of the questions before the lookup, an s that the lookup refuses, and a yes to all.
 -- Assumes nothing.
 use mathlib.Core.Path.{◌≡◌, sym, ap, ◌∙◌, subst}
@@ -21,7 +22,7 @@ use Rattle.query.proofs.eval_at.Tie as tie
 
 -- a place behind the questions, and what the query was given there
 abbrev Place : Type 0
-Place = tie.After-query-questions
+Place = tie.After-query_questions-number
 
 abbrev start : Place → tie.Start
 start p = p.before.before.before.before.before.before
@@ -35,32 +36,32 @@ before p = let a = (start p).args in buffers a.q.now a.dq.now a.ddq.now a.dddq.n
 abbrev lengths : Place → Lengths
 lengths p = lengths_of (before p)
 
-answer : (p : Place) → p.query_questions.result ≡ asked (given p) (lengths p)
-answer p = p.query_questions.ensures
+answer : (p : Place) → p.query_questions-number.result ≡ asked (given p) (lengths p)
+answer p = p.query_questions-number.ensures
 
-said_yes : (c : tie.Else1) → asked (given c.before) (lengths c.before) ≡ 0
-said_yes c = sym (answer c.before) ∙ c.if1.false
+said_yes : (c : tie.Else-number-ne0) → asked (given c.before) (lengths c.before) ≡ 0
+said_yes c = sym (answer c.before) ∙ c.if-number-ne0.false
 
 -- behind the lookup: the segment and tau that it answered
-abbrev segment : tie.After-segment → ℕ
-segment c = c.segment.given.0.0
+abbrev segment : tie.In-At → ℕ
+segment c = c.in-At.segment
 
-abbrev tau : tie.After-segment → SegmentUnits
-tau c = c.segment.given.0.1.0
+abbrev tau : tie.In-At → SegmentUnits
+tau c = c.in-At.tau
 
-abbrev lent : tie.After-eval-axes-arg4 → tie.After-segment
-lent c = c.before.before.before.before.before
+abbrev lent : tie.After-eval_axes-arg-in-At-3-1 → tie.In-At
+lent c = c.before.before.before.before
 
-abbrev asked-yes : tie.After-segment → tie.Else1
-asked-yes c = c.before.before.before
+abbrev asked-yes : tie.In-At → tie.Else-number-ne0
+asked-yes c = c.before.before
 
-abbrev asked-at : tie.After-segment → Place
+abbrev asked-at : tie.In-At → Place
 asked-at c = (asked-yes c).before
 
-found : (c : tie.After-segment) → let i = given (asked-at c) in lookup_says (lookup i.path i.s) ≡ lookup_says (At (segment c) (tau c))
-found c = sym c.before.before.segment_tau.ensures ∙ ap lookup_says c.segment.given.1
+found : (c : tie.In-At) → let i = given (asked-at c) in lookup_says (lookup i.path i.s) ≡ lookup_says (At (segment c) (tau c))
+found c = sym c.in-At.ensures
 
-inside : (c : tie.After-segment) → let i = given (asked-at c) in range i.path i.s ≡ true
+inside : (c : tie.In-At) → let i = given (asked-at c) in range i.path i.s ≡ true
 unfolding lookup_says
 inside c = let i = given (asked-at c) in in_range_lem i.path i.s (ap (λ (says : LookupSays). says.number) (found c))
 
@@ -70,12 +71,12 @@ as_it_was p {number} h is =
     let same : (k : ℕ) (xs : List Float) → xs ≡ derivative_after (given p) (lengths p) k xs = λ k xs. sym (refused (given p) (lengths p) number h is k xs) in
     record { number_is = sym is; q_is = same 0 _; dq_is = same 1 _; ddq_is = same 2 _; dddq_is = same 3 _ }
 
-returns : tie.Need-returns
+returns : tie.Need-returns-then-number-ne0
 returns c =
     let p = c.before in
-    as_it_was p c.if1.true (no_number (given p) (lengths p) (λ e. c.if1.true (answer p ∙ e)) ∙ sym (answer p))
+    as_it_was p c.if-number-ne0.true (no_number (given p) (lengths p) (λ e. c.if-number-ne0.true (answer p ∙ e)) ∙ sym (answer p))
 
-eval-axes-requires : tie.Need-eval-axes-requires
+eval-axes-requires : tie.Need-eval_axes-requires
 unfolding lookup_says
 eval-axes-requires c κs =
     let f = lent c in
@@ -85,17 +86,17 @@ eval-axes-requires c κs =
     let l = segment_known i.path i.s (findable i (lengths p) e) (inside f) in
     evaluable i (lengths p) e (segment f) (subst (λ (n : ℕ). n < i.path.segments) (ap (λ (says : LookupSays). says.segment) (found f)) l)
 
-returns-2 : tie.Need-returns-2
+returns-2 : tie.Need-returns-in-OutOfRange
 unfolding lookup_says
 returns-2 c =
-    let l = c.before.before in
+    let l = c.before in
     let p = l.before.before in
     let a = (start p).args in
     let says : (lookup_says (lookup a.path a.s)).number ≡ 305 =
-    ap (λ (says : LookupSays). says.number) (sym l.segment_tau.ensures ∙ ap lookup_says c.enum_told.given.1) in
+    ap (λ (says : LookupSays). says.number) (sym c.in-OutOfRange.ensures) in
     as_it_was p (λ e. omega arith) (range_number (given p) (lengths p) (said_yes l.before) (out_of_range a.path a.s says))
 
-returns-3 : tie.Need-returns-3
+returns-3 : tie.Need-returns-in-At
 returns-3 c =
     let done = c.before.before.before.before.before.before.before.before in
     let f = lent done.before in
@@ -116,8 +117,8 @@ returns-3 c =
       dddq_is = h.is_dddq ∙ written 3 (before p).dddq;
     }
 
-pub eval-at-spec : {M : Type 1} → statement M
-eval-at-spec =
+pub eval_at_spec : {M : Type 1} → statement M
+eval_at_spec =
     tie.close
     (tie.spec
     (λ c κs. search rules)
