@@ -1,3 +1,4 @@
+-- turned
 -- A yes is one to two sets that the check says yes to, and demand 3 speaks of those. Assumes nothing.
 use mathlib.Core.Path.{◌≡◌, refl, sym, ap, ap₂, ◌∙◌, subst}
 use mathlib.Core.Bool.{true, ◌&&◌}
@@ -39,23 +40,23 @@ refused-alone Yes other e = absurd (subst T (sym e) tt)
 refused-alone No other e = absurd (subst T (sym e) tt)
 refused-alone (Refused n) other e = refl
 
-returns : tie.Need-returns
+returns : tie.Need-returns-then-is_refused
 unfolding check_both
 returns c =
     let told = c.before in
     let asked = told.before in
     let p = asked.before in
-    let one = asked.check_master.ensures in
-    let no : (master_says asked.check_master.result).refused ≡ true = sym told.is_refused.ensures ∙ c.if1.true in
+    let one = asked.check_master-first.ensures in
+    let no : (master_says asked.check_master-first.result).refused ≡ true = sym told.is_refused.ensures ∙ c.if-is_refused.true in
     promised (first p) (second p) refl (refused-alone _ (check_master (second p)) no ∙ ap (λ (says : MasterSays). both_say says (check_master (second p))) one)
 
-returns-2 : tie.Need-returns-2
+returns-2 : tie.Need-returns
 unfolding check_both
 returns-2 c =
     let asked = c.before.before.before.before in
     let p = asked.before in
-    promised (first p) (second p) refl (c.both.ensures ∙ ap₂ both_say asked.check_master.ensures c.before.check-master2.ensures)
+    promised (first p) (second p) refl (c.both.ensures ∙ ap₂ both_say asked.check_master-first.ensures c.before.check_master-second.ensures)
 
-pub both-yes-spec : {M : Type 1} → statement M
-both-yes-spec =
+pub both_yes_spec : {M : Type 1} → statement M
+both_yes_spec =
     tie.close (tie.spec (λ c κs. search rules) (λ c κs. search rules) returns (λ c κs. search rules) (λ c κs. search rules) returns-2)
