@@ -1,3 +1,4 @@
+-- turned
 -- `sheet_sizes::fault_of` meets its contract. Assumes nothing.
 use mathlib.Core.Path.{◌≡◌}
 use mathlib.Core.Bool.{false}
@@ -9,49 +10,49 @@ use Rattle.sheet_sizes.proofs.fault_of.Statement.{statement}
 use Rattle.sheet_sizes.proofs.fault_of.Tie as tie
 
 -- behind the first and the second test
-abbrev first : tie.Else2 → tie.Else1
+abbrev first : tie.Else-z-count → tie.Else-z-ge258
 first c = c.before.before
 
-abbrev start : tie.Else1 → tie.Start
+abbrev start : tie.Else-z-ge258 → tie.Start
 start c = c.before.before
 
-returns : tie.Need-returns
+returns : tie.Need-returns-then-z-ge258
 unfolding fault_of
-returns c = let z = c.before.before.args.z in rw (le-leb 258 z.points (omega (arith, c.if1.true)))
+returns c = let z = c.before.before.args.z in rw (le-leb 258 z.points (omega (arith, c.if-z-ge258.true)))
 
-returns-2 : tie.Need-returns-2
+returns-2 : tie.Need-returns-then-z-count
 unfolding fault_of
 returns-2 c =
     let e = c.before.before in
     let z = (start e).args.z in
-    rw (lt-leb 258 z.points (omega (arith, e.if1.false)), ne_eqb _ _ c.if2.true)
+    rw (lt-leb 258 z.points (omega (arith, e.if-z-ge258.false)), ne_eqb _ _ c.if-z-count.true)
 
 -- there are not too many points
-points : (d : tie.Else2) → leb 258 (start (first d)).args.z.points ≡ false
-points d = lt-leb 258 (start (first d)).args.z.points (omega (arith, (first d).if1.false))
+points : (d : tie.Else-z-count) → leb 258 (start (first d)).args.z.points ≡ false
+points d = lt-leb 258 (start (first d)).args.z.points (omega (arith, (first d).if-z-ge258.false))
 
-returns-3 : tie.Need-returns-3
+returns-3 : tie.Need-returns-then-z-ge4
 unfolding fault_of
 returns-3 c =
     let d = c.before.before in
     let z = (start (first d)).args.z in
-    rw (points d, eq-eqb _ _ d.if2.false, le-leb 4 z.start (omega (arith, c.if3.true)))
+    rw (points d, eq-eqb _ _ d.if-z-count.false, le-leb 4 z.start (omega (arith, c.if-z-ge4.true)))
 
-returns-4 : tie.Need-returns-4
+returns-4 : tie.Need-returns-then-z-ge4-2
 unfolding fault_of
 returns-4 c =
     let e = c.before.before in
     let d = e.before.before in
     let z = (start (first d)).args.z in
-    rw (points d, eq-eqb _ _ d.if2.false, lt-leb 4 z.start (omega (arith, e.if3.false)), le-leb 4 z.end (omega (arith, c.if4.true)))
+    rw (points d, eq-eqb _ _ d.if-z-count.false, lt-leb 4 z.start (omega (arith, e.if-z-ge4.false)), le-leb 4 z.end (omega (arith, c.if-z-ge4-2.true)))
 
-returns-5 : tie.Need-returns-5
+returns-5 : tie.Need-returns
 unfolding fault_of
 returns-5 c =
     let e = c.before.before in
     let d = e.before.before in
     let z = (start (first d)).args.z in
-    rw (points d, eq-eqb _ _ d.if2.false, lt-leb 4 z.start (omega (arith, e.if3.false)), lt-leb 4 z.end (omega (arith, c.if4.false)))
+    rw (points d, eq-eqb _ _ d.if-z-count.false, lt-leb 4 z.start (omega (arith, e.if-z-ge4.false)), lt-leb 4 z.end (omega (arith, c.if-z-ge4-2.false)))
 
-pub fault-of-spec : {M : Type 1} → statement M
-fault-of-spec = tie.close (tie.spec returns returns-2 returns-3 returns-4 returns-5)
+pub fault_of_spec : {M : Type 1} → statement M
+fault_of_spec = tie.close (tie.spec returns returns-2 returns-3 returns-4 returns-5)
