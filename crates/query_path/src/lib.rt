@@ -1,6 +1,5 @@
 // A path: its record beside the coefficients that it was lent, so that a caller hands over one thing. Each
-// function is thin and takes any operands; the work is the query's. The borrow checker covers no function over
-// a struct that holds a reference, so each is proved by hand; whoever calls `eval_path` needs no such proof.
+// function is thin and takes any operands; the work is the query's.
 #![tactic(auto)]
 
 ghost use Rattle.std.specs.Prelude.{◌≡◌};
