@@ -161,7 +161,8 @@ module _ (s : Bool) (h l j e : ℕ) (u p q : Float) (h-lt : h < 2 ^ 53) (h-ge : 
   low_product =
       subst (λ (i : ℕ). HasValue (mul binary64 (of_int binary64 (pos j)) q) s (j * 2 ^ i) (2 ^ 1074)) (sums e e-ge)
       (subst (λ (r : Bool). HasValue (mul binary64 (of_int binary64 (pos j)) q) r (j * 2 ^ (e - 1116 + 51)) (2 ^ 1074)) (plain s)
-      (power_times binary64 (of_int binary64 (pos j)) q false s j (e - 1116 + 51) j-lt (in_range_lem j (e - 1116 + 51) j-lt (small e e-lt)) (low_value j j-lt) qv))
+      (power_times binary64 (of_int binary64 (pos j)) q false s j (e - 1116 + 51) j-lt (in_range_lem j (e - 1116 + 51) j-lt (small e e-lt))
+      (low_value j j-lt) qv))
     where
       sums : (e : ℕ) → 1200 ≤ e → e - 1116 + 51 ≡ e - 1065
       sums e g = omega arith

@@ -101,7 +101,8 @@ module _ (c : Turn) where
   abbrev derivatives : ℕ → Float
   derivatives = eval_poly start.args.path.order (take count (drop place table)) start.args.tau.0
 
-evaluated : (d : tie.After-eval_poly-d invariant-loop decreases-loop) → let i = evaluating d in d.eval_poly-d.result ≡ asked (start i).args.level (derivatives i)
+evaluated : (d : tie.After-eval_poly-d invariant-loop decreases-loop)
+    → let i = evaluating d in d.eval_poly-d.result ≡ asked (start i).args.level (derivatives i)
 evaluated d =
     let i = evaluating d in
     let a = (start i).args in

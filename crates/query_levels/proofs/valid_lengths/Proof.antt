@@ -9,7 +9,9 @@ returns : tie.Need-returns-then-not-valid_length
 returns c = simp (no c.before.valid_length.ensures c.if-not-valid_length.true)
 
 returns-2 : tie.Need-returns-then-not-valid_length-2
-returns-2 c = let d = c.before.before in simp (yes d.before.valid_length.ensures d.if-not-valid_length.false, no c.before.valid_length-2.ensures c.if-not-valid_length-2.true)
+returns-2 c =
+    let d = c.before.before in
+    simp (yes d.before.valid_length.ensures d.if-not-valid_length.false, no c.before.valid_length-2.ensures c.if-not-valid_length-2.true)
 
 returns-3 : tie.Need-returns-then-not-valid_length-3
 returns-3 c =

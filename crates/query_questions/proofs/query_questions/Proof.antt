@@ -76,7 +76,8 @@ past-5 : (c : tie.Else-inv-inv_ds) → Past 5 (behind-5 c)
 unfolding path_questions buffer_questions
 past-5 c =
     let d = c.before.before in
-    past-4 d.before.before ∙ yes_to _ _ (both (yes d.before.valid_range.ensures d.if-not-valid_range.false) (equal _ c.before.inv_ds.ensures c.if-inv-inv_ds.false))
+    past-4 d.before.before
+    ∙ yes_to _ _ (both (yes d.before.valid_range.ensures d.if-not-valid_range.false) (equal _ c.before.inv_ds.ensures c.if-inv-inv_ds.false))
 
 past-6 : (c : tie.Else-cells-axes) → Past 6 (behind-5 c.before)
 unfolding path_questions buffer_questions

@@ -53,7 +53,8 @@ unfolding of_bits of_int listed derivative_factor
 returns-3 c =
     let at = c.before in
     let s = start at in
-    asked_3 (derivative s) (position at) (first at) (second at) (derivative_is _ 3 s.requires.1 last) (is_3 _ s.requires.0 (past-0 at).if-level-eq0.false c.if-level-eq2.false)
+    asked_3 (derivative s) (position at) (first at) (second at) (derivative_is _ 3 s.requires.1 last)
+    (is_3 _ s.requires.0 (past-0 at).if-level-eq0.false c.if-level-eq2.false)
 
 pub cubic_spec : {M : Type 1} → statement M
 cubic_spec =
