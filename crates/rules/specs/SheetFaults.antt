@@ -1,43 +1,8 @@
 -- What a text is refused for, by document 02's Wish 1: 600, 601, 4, 2 and 3 with their places, and which of them is the answer. Assumes nothing.
-use Rattle.std.specs.Prelude.{◌≡◌, ◌⊎◌, Bool, true, false, ℕ, zero, suc, ◌+◌, ◌*◌, ◌-◌, ◌<◌, ◌≤◌, ℤ, nat_abs, length, take, leb, ltb, eqb}
+use Rattle.std.specs.Prelude.{◌≡◌, ◌⊎◌, true, false, ℕ, suc, ◌+◌, ◌*◌, ◌-◌, ◌<◌, ◌≤◌, ℤ, nat_abs, length, take, leb, ltb, eqb}
 use mathlib.Core.List.{List, [], ◌∷◌, ◌++◌, Memᴰ}
-use Rattle.rules.specs.Sheets.{
-  bytes,
-  Item,
-  Items,
-  whole,
-  again,
-  one,
-  more,
-  States,
-  states,
-  Axis,
-  axis,
-  Axes,
-  only,
-  next,
-  Range,
-  range,
-  Heading,
-  heading,
-  Sheet,
-  sheet,
-  natural,
-  signed,
-  spell_item,
-  spell_items,
-  spell_states,
-  spell_axis,
-  spell_heading,
-  spell_sheet,
-  within,
-  below4,
-  Free,
-  Limited,
-  Begins,
-  Viable,
-}
-use Rattle.rules.specs.SheetReading.{Read, got, stop, sheet_of}
+use Rattle.rules.specs.Sheets.{bytes, Item, Items, whole, again, one, more, States, states, Axis, axis, Axes, only, next, range, Heading, heading, Sheet, sheet, natural, signed, spell_item, spell_items, spell_axis, spell_heading, within, below4, Free, Begins, Viable}
+use Rattle.rules.specs.SheetReading.{got, stop, sheet_of}
 
 -- a number and a byte place, counted from 0
 pub data Refusal : Type 0 where

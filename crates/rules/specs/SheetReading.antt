@@ -1,7 +1,7 @@
 -- A judge of job sheets: a text is read byte by byte, and the first byte that cannot be, or the first that passes a limit, ends the reading. It is here
 -- for the code to follow. That it says what the grammar of Sheets.antt says is proved: crates/theorem_sheets. Assumes nothing.
 use Prim.{Unit, tt}
-use Rattle.std.specs.Prelude.{ℕ, zero, suc, ◌+◌, ◌*◌, ◌-◌, Bool, true, false, ◌&&◌, List, [], ◌∷◌, ◌++◌, ℤ, pos, neg_ℤ, length, leb, eqb}
+use Rattle.std.specs.Prelude.{ℕ, zero, suc, ◌+◌, ◌*◌, ◌-◌, Bool, true, false, ◌&&◌, List, [], ◌∷◌, ℤ, pos, neg_ℤ, length, leb, eqb}
 use Rattle.rules.specs.Sheets.{
   bytes,
   Item,
