@@ -7,7 +7,7 @@ use native.Mathlib.Omega.{arith}
 use lib.IntN.{ℤ}
 use lib.ListN.{length, drop, get_or, drop_of_length-le}
 use borrow.Author.Tests.{eq-eqb, ne_eqb, lt-ltb, le-ltb}
-use Rattle.rules.specs.Sheets.{Item, within}
+use Rattle.rules.specs.Sheets.{within}
 use Rattle.rules.specs.SheetReading as reading
 use Rattle.sheet_puts.specs.Put.{put}
 use Rattle.sheet_counts.specs.declared.Counted.{Counted}

@@ -42,15 +42,15 @@ list_at t = and 2 list-kinds.ps (is 2 list-kinds.ps μ-list t) list.Pre
 abbrev list-below : ℕ → In 2 list-kinds.ps
 list-below t = and 2 list-kinds.ps (falls 2 list-kinds.ps ◌<◌ μ-list t) list.Pre
 
-abbrev list-Inv-loop : list-lts.invariant-loop
+abbrev list-Inv-loop : list-lts.invariant-loop-last
 list-Inv-loop text from depth out₀ at place₀ end₀ over₀ out place end over =
     (length out ≡ length out₀) × Sofar text from depth out₀ at place end over out
 
-abbrev list-μ-loop : list-lts.decreases-loop
+abbrev list-μ-loop : list-lts.decreases-loop-last
 list-μ-loop text from depth out₀ at place₀ end₀ over₀ out place end over = length text - place
 
-pub +item-list-spec : {M : Type 1} → statement M
-+item-list-spec = close μ-item μ-list (λ t. item-lts.spec (
+pub +item_list_spec : {M : Type 1} → statement M
++item_list_spec = close μ-item μ-list (λ t. item-lts.spec (
   open-item-reads.Asked,
   open-item-reads.Learnt,
   number-item-reads.Asked,
@@ -62,51 +62,38 @@ pub +item-list-spec : {M : Type 1} → statement M
 )
     (item-at t)
     item.Post
-    (λ c κs. c.before.requires.1.0)
+    (λ c κs. c.requires.1.0)
     (λ c. search rules)
-    (λ c κs. let s = c.before.before.before.before.before in (s.requires.1.0, s.requires.1.1))
+    (λ c κs. (c.requires.1.0, c.requires.1.1))
     (λ c. search rules)
     (λ c.
-    let o = c.before.before.before in
-    let a = o.before.before.args in
-    let f = again_facts a.text.now a.from a.depth a.out.now a.at _ _ _ c.before.form.given.1 o.open_item.ensures in
+    let a = c.args in
+    let f = again_facts a.text.now a.from a.depth a.out.now a.at _ _ _ c.in-Again.is c.open_item-form.ensures in
     omega (arith, f.4))
     (λ c κs.
-    let o = c.before.before.before.before in
-    let s = o.before.before in
-    let a = s.args in
-    let f = again_facts a.text.now a.from a.depth a.out.now a.at _ _ _ c.before.before.form.given.1 o.open_item.ensures in
-    (omega (arith, f.0, f.1, s.requires.0), (f.1, s.requires.1.1, s.requires.1.2)))
+    let a = c.args in
+    let f = again_facts a.text.now a.from a.depth a.out.now a.at _ _ _ c.in-Again.is c.open_item-form.ensures in
+    (omega (arith, f.0, f.1, c.requires.0), (f.1, c.requires.1.1, c.requires.1.2)))
     (λ c κs.
-    let l = c.before.before in
-    let i = l.before.before.before in
-    let o = i.before.before in
-    let s = o.before.before in
-    let a = s.args in
-    let f = again_facts a.text.now a.from a.depth a.out.now a.at _ _ _ i.form.given.1 o.open_item.ensures in
-    let k = l.list.auto.1.1.1.0 in
-    let e = ends_in a.text.now a.from a.depth a.out.now a.at s.requires.1.1 _ _ l.list.result _ l.list.ensures in
-    (f.2, f.3, omega (arith, k, s.requires.1.2), subst (λ n. EndsIn a.at n l.list.result) (sym k) e))
+    let a = c.args in
+    let f = again_facts a.text.now a.from a.depth a.out.now a.at _ _ _ c.in-Again.is c.open_item-form.ensures in
+    let k = c.list-inner.auto.out in
+    let e = ends_in a.text.now a.from a.depth a.out.now a.at c.requires.1.1 _ _ c.list-inner.result _ c.list-inner.ensures in
+    (f.2, f.3, omega (arith, k, c.requires.1.2), subst (λ n. EndsIn a.at n c.list-inner.result) (sym k) e))
     (λ c. search rules)
     (λ c. search rules)
     (λ c.
-    let o = c.before.before.before.before.before in
-    let a = o.before.before.args in
-    number_done a.text.now a.from a.depth a.out.now a.at _ c.before.before.before.enum_told.given.1 o.open_item.ensures _ _
-    c.before.number_item.ensures)
-    (λ c. c.before.repeated.auto.1.0 ∙ c.before.before.before.before.list.auto.1.1.1.0)
+    let a = c.args in
+    number_done a.text.now a.from a.depth a.out.now a.at _ c.in-Number.is c.open_item-form.ensures _ _
+    c.number_item.ensures)
+    (λ c. c.repeated.auto.out ∙ c.list-inner.auto.out)
     (λ c.
-    let l = c.before.before.before.before in
-    let i = l.before.before.before in
-    let o = i.before.before in
-    let s = o.before.before in
-    let a = s.args in
-    form_done a.text.now a.from a.depth a.out.now a.at s.requires.1.1 _ _ _ i.form.given.1 o.open_item.ensures _ _
-    l.list.ensures _ _ c.before.repeated.ensures)
+    let a = c.args in
+    form_done a.text.now a.from a.depth a.out.now a.at c.requires.1.1 _ _ _ c.in-Again.is c.open_item-form.ensures _ _
+    c.list-inner.ensures _ _ c.repeated.ensures)
     (λ c.
-    let o = c.before.before.before in
-    let a = o.before.before.args in
-    fault_done a.text.now a.from a.depth a.out.now a.at _ _ _ c.before.form2.given.1 o.open_item.ensures _))
+    let a = c.args in
+    fault_done a.text.now a.from a.depth a.out.now a.at _ _ _ c.in-Stop.is c.open_item-form.ensures _))
     λ t. list-lts.spec (
       later-reads.Asked,
       later-reads.Learnt,
@@ -119,59 +106,41 @@ pub +item-list-spec : {M : Type 1} → statement M
     list.Post
     list-Inv-loop
     list-μ-loop
-    (λ c. let s = c.before in let a = s.args in (
+    (λ c. let a = c.args in (
       refl,
-      at_start_lem a.text.now a.from a.depth a.out.now a.at s.requires.1.1 s.requires.1.0
+      at_start_lem a.text.now a.from a.depth a.out.now a.at c.requires.1.1 c.requires.1.0
           a.from,
     ))
     (λ c κs. search rules)
     (λ c κs.
-    let l = c.before.before in
-    let s = l.before.before in
-    let i = l.loop.invariant in
-    (omega (arith, s.requires.0, i.1.forward), (i.1.inside, omega (arith, i.0, i.1.ends), omega (arith, i.0, s.requires.1.2))))
+    let i = c.loop-last.invariant in
+    (omega (arith, c.requires.0, i.1.forward), (i.1.inside, omega (arith, i.0, i.1.ends), omega (arith, i.0, c.requires.1.2))))
     (λ c κs. search rules)
     (λ c. search rules)
     (λ c.
-    let g = c.before.before.before in
-    let r = g.before.before in
-    let v = r.before.before in
-    let l = v.before in
-    let s = l.before.before in
-    let a = s.args in
-    let f = turn_item a.text.now a.from a.depth a.out.now a.at s.requires.1.1 l.loop.place l.loop.end l.loop.over l.loop.out
-    l.loop.invariant.1 r.item.result _ r.item.ensures _ g.following.ensures _ v.later.ensures _ _ c.before.next.given.1 in
+    let a = c.args in
+    let l = c.loop-last in
+    let f = turn_item a.text.now a.from a.depth a.out.now a.at c.requires.1.1 l.place l.end l.over l.out
+    l.invariant.1 c.item-read.result _ c.item-read.ensures _ c.following-next.ensures _ c.later-over.ensures _ _ c.in-Item.is in
     omega (arith, f.1, f.0.inside))
     (λ c.
-    let g = c.before.before.before in
-    let r = g.before.before in
-    let v = r.before.before in
-    let l = v.before in
-    let s = l.before.before in
-    let a = s.args in (
-      r.item.auto.1.1.1.0 ∙ l.loop.invariant.0,
-      (turn_item a.text.now a.from a.depth a.out.now a.at s.requires.1.1 l.loop.place l.loop.end l.loop.over l.loop.out
-          l.loop.invariant.1 r.item.result _ r.item.ensures _ g.following.ensures _ v.later.ensures _ _ c.before.next.given.1).0,
+    let a = c.args in
+    let l = c.loop-last in (
+      c.item-read.auto.out ∙ l.invariant.0,
+      (turn_item a.text.now a.from a.depth a.out.now a.at c.requires.1.1 l.place l.end l.over l.out
+          l.invariant.1 c.item-read.result _ c.item-read.ensures _ c.following-next.ensures _ c.later-over.ensures _ _ c.in-Item.is).0,
     ))
     (λ c. search rules)
-    (λ c. let r = c.before.before.before.before.before in r.item.auto.1.1.1.0 ∙ r.before.before.before.loop.invariant.0)
+    (λ c. c.item-read.auto.out ∙ c.loop-last.invariant.0)
     (λ c.
-    let g = c.before.before.before in
-    let r = g.before.before in
-    let v = r.before.before in
-    let l = v.before in
-    let s = l.before.before in
-    let a = s.args in
-    turn_close a.text.now a.from a.depth a.out.now a.at s.requires.1.1 l.loop.place l.loop.end l.loop.over l.loop.out
-    l.loop.invariant.1 r.item.result _ r.item.ensures _ g.following.ensures _ v.later.ensures _ _ c.before.next2.given.1)
+    let a = c.args in
+    let l = c.loop-last in
+    turn_close a.text.now a.from a.depth a.out.now a.at c.requires.1.1 l.place l.end l.over l.out
+    l.invariant.1 c.item-read.result _ c.item-read.ensures _ c.following-next.ensures _ c.later-over.ensures _ _ c.in-Close.is)
     (λ c. search rules)
-    (λ c. let r = c.before.before.before.before.before in r.item.auto.1.1.1.0 ∙ r.before.before.before.loop.invariant.0)
+    (λ c. c.item-read.auto.out ∙ c.loop-last.invariant.0)
     (λ c.
-    let g = c.before.before.before in
-    let r = g.before.before in
-    let v = r.before.before in
-    let l = v.before in
-    let s = l.before.before in
-    let a = s.args in
-    turn_stop a.text.now a.from a.depth a.out.now a.at s.requires.1.1 l.loop.place l.loop.end l.loop.over l.loop.out
-    l.loop.invariant.1 r.item.result _ r.item.ensures _ g.following.ensures _ _ c.before.next3.given.1)
+    let a = c.args in
+    let l = c.loop-last in
+    turn_stop a.text.now a.from a.depth a.out.now a.at c.requires.1.1 l.place l.end l.over l.out
+    l.invariant.1 c.item-read.result _ c.item-read.ensures _ c.following-next.ensures _ _ c.in-Stop.is)
