@@ -1,4 +1,3 @@
--- turned
 -- `build_products::copy` meets its contract. The loop's invariant: the second list has the first one's cells below q, and its own from q on. Assumes nothing.
 use mathlib.Core.Path.{refl, ◌∙◌}
 use Prim.Native.Nat.{◌-◌}

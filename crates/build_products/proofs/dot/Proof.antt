@@ -1,4 +1,3 @@
--- turned
 -- `build_products::dot` is the sum of the products, left to right. The loop's invariant: total is the sum of the first j,
 -- and place is that of the product before. Assumes nothing.
 use mathlib.Core.Path.{◌≡◌}

@@ -1,4 +1,3 @@
--- turned
 -- `build_products::subtract_product` subtracts the product. The loop's invariant: v has the differences below i, and its own cells from i on.
 -- Assumes nothing.
 use Prim.Native.Nat.{◌-◌}
