@@ -1,4 +1,3 @@
--- turned
 -- `build_pivots::exchange_entries` exchanges two rows. The loop's invariant: they are exchanged in the columns before j. Assumes nothing.
 use mathlib.Core.Path.{◌≡◌, sym, ◌∙◌}
 use Prim.Native.Nat.{◌+◌, ◌-◌, ◌*◌, ◌≤◌}

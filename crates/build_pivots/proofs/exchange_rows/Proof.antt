@@ -1,4 +1,3 @@
--- turned
 -- `build_pivots::exchange_rows` exchanges two numbers of a list. Assumes nothing.
 use borrow.Author.Rules.{rules}
 use Rattle.build_pivots.proofs.Exchange.{swapped_listed}

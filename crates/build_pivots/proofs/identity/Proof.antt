@@ -1,4 +1,3 @@
--- turned
 -- `build_pivots::identity` sets each place to its own number. The loop's invariant: the places before i are set. Assumes nothing.
 use mathlib.Core.Path.{◌≡◌, refl, sym, ◌∙◌}
 use Prim.Native.Nat.{◌-◌, ◌≤◌}

@@ -1,4 +1,3 @@
--- turned
 -- `build_pivots::magnitude` gives the number without its sign, for each kind of float. Assumes nothing.
 use lib.Ieee.{of_bits}
 use Rattle.build_pivots.proofs.Magnitudes.{of_negative, of_zero, of_rest}

@@ -1,4 +1,3 @@
--- turned
 -- `build_pivots::pivot_row` finds the pivot's row. The loop's invariant: `best` is the pivot's row of the rows from k to before `next`. Assumes nothing.
 use mathlib.Core.Path.{◌≡◌, ◌∙◌}
 use mathlib.Core.Bool.{Bool, true, false, cond}
