@@ -5,7 +5,8 @@ use lib.Dec.{T, eqb→eq, leb→le}
 use lib.ListN.{length}
 use Rattle.rules.specs.Tables.{m_of}
 use Rattle.rules.specs.Build.{valid_order}
-use Rattle.rules.specs.Master.{MasterSet, Equations, segments, master_questions, size_questions, length_questions, number_questions, master_number, check_master}
+use Rattle.rules.specs.Master.{MasterSet, Equations, segments, master_questions, size_questions, length_questions, number_questions}
+use Rattle.rules.specs.Master.{master_number, check_master}
 use Rattle.rules.proofs.Questions.{answer_at, said_yes}
 use Rattle.rules.proofs.Build.{coefficient_count}
 use Rattle.rules.proofs.Master.{yes_iff}

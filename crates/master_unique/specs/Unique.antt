@@ -22,7 +22,8 @@ MastersAreUnique =
 unfoldable pub TwoCallsThatSaidYes : Type 0
 TwoCallsThatSaidYes =
     (order : ℕ) (waypoints waypoints' start start' end end' table table' : List ℤ) (answer answer' : MasterAnswer)
-    → master_says answer ≡ check_master (set_of order waypoints start end table) → master_says answer' ≡ check_master (set_of order waypoints' start' end' table')
+    → master_says answer ≡ check_master (set_of order waypoints start end table)
+    → master_says answer' ≡ check_master (set_of order waypoints' start' end' table')
     → answer ≡ Yes → answer' ≡ Yes
     → (table ≡ table') ↔ ((waypoints ≡ waypoints') × (start ≡ start') × (end ≡ end'))
 
@@ -32,4 +33,5 @@ unfoldable pub TwoPointMastersAreBuilt : Type 0
 TwoPointMastersAreBuilt =
     (b : BuildInput) (cells axis : ℕ) → build_number b cells ≡ 0 → WholeTwoPoints b → axis < b.axes → T (all within (axis_set b axis).table)
     → (t : MasterSet) → b.config.order ≡ t.order → T (check_master t).good
-    → ((axis_set b axis).table ≡ t.table) ↔ (((axis_set b axis).waypoints ≡ t.waypoints) × ((axis_set b axis).start ≡ t.start) × ((axis_set b axis).end ≡ t.end))
+    → ((axis_set b axis).table ≡ t.table)
+    ↔ (((axis_set b axis).waypoints ≡ t.waypoints) × ((axis_set b axis).start ≡ t.start) × ((axis_set b axis).end ≡ t.end))
