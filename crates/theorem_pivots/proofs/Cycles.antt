@@ -5,7 +5,7 @@ use mathlib.Core.Bool.{Bool, true, false, not, ◌&&◌}
 use mathlib.Core.List.{[], ◌∷◌}
 use Prim.Native.Nat.{ℕ, zero, suc, ◌≤◌}
 use native.Mathlib.Omega.{arith}
-use lib.IntN.{pos, negsuc}
+use lib.IntN.{negsuc}
 use lib.Ieee.{Float, fin, add, sub, mul, div, neg, lt, eq, le, of_int}
 use Rattle.rules.specs.Floats.{◌⊖◌, ◌⊗◌, +0, finite, magnitude, sum_of}
 use Rattle.law_lists.specs.Lists.{joined, listed, every}

@@ -3,11 +3,11 @@ use mathlib.Core.Path.{◌≡◌, refl, sym, ◌∙◌, subst}
 use mathlib.Core.Bool.{Bool, true, false, not, ◌&&◌}
 use Prim.Native.Nat.{ℕ, ◌≤◌, ◌<◌}
 use lib.Dec.{T}
-use lib.Ieee.{Float, eq, le}
+use lib.Ieee.{eq, le}
 use lib.Ieee.Bits.{is_true}
 use lib.Ieee.Fits.{and_l, and_r}
 use Rattle.rules.specs.Floats.{+0, finite, magnitude}
-use Rattle.rules.specs.Solve.{Factored, node_factors}
+use Rattle.rules.specs.Solve.{Factored}
 use Rattle.law_lists.proofs.Lists.{every_at}
 use Rattle.theorem_pivots.specs.Pivots.{pivot, least, PivotsAreNeverZero}
 use Rattle.theorem_pivots.specs.Repeating.{settled, NodesRepeat}

@@ -1,21 +1,19 @@
 -- Question 10 says yes to whatever passes the others, so asking it changes nothing. Assumes nothing.
 use mathlib.Core.Path.{◌≡◌, refl, sym, ◌∙◌}
-use mathlib.Core.Bool.{Bool, true, false, not}
+use mathlib.Core.Bool.{Bool, true, false}
 use mathlib.Core.List.{[], ◌∷◌, ◌++◌}
 use Prim.Native.Nat.{ℕ, ◌-◌, ◌≤◌}
 use native.Mathlib.Omega.{arith}
-use lib.Dec.{T, eqb}
-use lib.Ieee.{eq}
+use lib.Dec.{eqb}
 use lib.Ieee.Bits.{is_true}
 use borrow.Author.Tests.{eqb-true, eqb-false}
-use Rattle.rules.specs.Floats.{+0}
 use Rattle.rules.specs.Questions.{ask, first_no}
 use Rattle.rules.specs.Tables.{m_of}
-use Rattle.rules.specs.Build.{BuildInput, build_questions, build_number}
+use Rattle.rules.specs.Build.{build_questions, build_number}
 use Rattle.law_lists.proofs.Lists.{every_of}
-use Rattle.rules.proofs.Questions.{answer_at, said_yes, first_no_lem, first_yes, yes_to}
+use Rattle.rules.proofs.Questions.{said_yes, first_no_lem, first_yes, yes_to}
 use Rattle.rules.proofs.Build.{by_order}
-use Rattle.theorem_pivots.specs.Pivots.{pivot, PivotsAreNeverZero, every_pivot, AskingChangesNothing}
+use Rattle.theorem_pivots.specs.Pivots.{PivotsAreNeverZero, every_pivot, AskingChangesNothing}
 use Rattle.theorem_pivots.proofs.Pivots.{pivots_are_never_zero}
 
 pub every_pivot_lem : (m n : ℕ) → 1 ≤ m → m ≤ 3 → every_pivot m n ≡ true
