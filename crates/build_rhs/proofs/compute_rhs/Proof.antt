@@ -1,4 +1,3 @@
--- turned
 -- `build_rhs::compute_rhs` meets its contract: after k turns the first k cells hold the definition's. Assumes nothing.
 -- the number of row k
 use mathlib.Core.Path.{◌≡◌, sym, ap, ap₂, ◌∙◌}

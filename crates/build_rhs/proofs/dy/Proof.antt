@@ -1,4 +1,3 @@
--- turned
 -- `build_rhs::dy` meets its contract. An axis has places at each of its waypoints, so i fits. Assumes nothing.
 -- a waypoint's number is at most its place, and the waypoint before it has a lower place
 use mathlib.Core.Path.{◌≡◌}

@@ -1,4 +1,3 @@
--- turned
 -- `build_rhs::waypoint` meets its contract. Assumes nothing.
 use Prim.Native.Nat.{◌+◌, ◌*◌}
 use Rattle.rules.proofs.Cells.{read}
