@@ -1,4 +1,3 @@
--- turned
 -- `build_plan::boundary_numbers` meets its contract: after r turns the first r cells hold the definition's. Assumes nothing.
 use mathlib.Core.Path.{◌≡◌, sym, ◌∙◌}
 use mathlib.Core.List.{List}

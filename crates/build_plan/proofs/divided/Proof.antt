@@ -1,4 +1,3 @@
--- turned
 -- `build_plan::divided` meets its contract: after k turns y is x divided k times. Assumes nothing.
 use mathlib.Core.Path.{◌≡◌, refl, ap, ◌∙◌}
 use Prim.Native.Nat.{ℕ, ◌-◌, ◌≤◌}
