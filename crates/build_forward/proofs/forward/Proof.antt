@@ -1,4 +1,3 @@
--- turned
 -- `build_forward::forward` solves forward. The loop's invariant: y is the right side after the first k rows. Assumes nothing.
 use mathlib.Core.Path.{◌≡◌, sym, ap, ◌∙◌}
 use Prim.Native.Nat.{◌-◌, ◌≤◌}

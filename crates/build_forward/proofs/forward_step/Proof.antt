@@ -1,4 +1,3 @@
--- turned
 -- `build_forward::forward_step` is the step at row k. The loop's invariant: y has the step's cells below i, and its own from i on.
 -- The loop starts below row k, since the step leaves the rows to k as they are. Assumes nothing.
 use Prim.Native.Nat.{◌+◌, ◌*◌, ◌-◌, ◌<◌}

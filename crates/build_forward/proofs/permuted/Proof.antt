@@ -1,4 +1,3 @@
--- turned
 -- `build_forward::permuted` is the right side with its rows exchanged. The loop's invariant: out has the result's cells below i, and its own from i on.
 -- Assumes nothing.
 use Prim.Native.Nat.{◌-◌, ◌<◌}
