@@ -1,4 +1,3 @@
--- turned
 -- `build_segments::node_numbers` meets its contract. Assumes nothing.
 use mathlib.Core.Path.{sym, ◌∙◌}
 use Prim.Native.Nat.{◌-◌, ◌*◌}

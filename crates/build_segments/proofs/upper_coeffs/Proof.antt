@@ -1,4 +1,3 @@
--- turned
 -- `build_segments::upper_coeffs` meets its contract. The loop's invariant: the list has the upper coefficients below i, and its
 -- own cells from i on. Assumes nothing.
 use Prim.Native.Nat.{◌+◌, ◌-◌, ◌*◌, ◌≤◌}

@@ -1,4 +1,3 @@
--- turned
 -- `build_segments::write_segment_coeffs` meets its contract. Assumes nothing.
 use Prim.Native.Nat.{◌+◌}
 use native.Mathlib.Omega.{arith}
