@@ -1,4 +1,3 @@
--- turned
 -- `build_tables::for_order` meets its contract: an m from 1 to 3 that is neither 1 nor 2 is 3. Assumes nothing.
 use mathlib.Core.Path.{◌≡◌}
 use native.Mathlib.Omega.{arith}

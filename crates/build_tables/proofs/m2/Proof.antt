@@ -1,4 +1,3 @@
--- turned
 -- `build_tables::m2` meets its contract: antt computes both sides of each table. Assumes nothing.
 use mathlib.Core.Path.{refl}
 use lib.Ieee.{neg, of_bits, of_int}
