@@ -1,4 +1,3 @@
--- turned
 -- `build_settled::distinct` meets its contract, by the m. Assumes nothing.
 use mathlib.Core.Path.{sym, ◌∙◌}
 use borrow.Author.Rules.{rules}

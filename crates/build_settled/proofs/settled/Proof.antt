@@ -1,4 +1,3 @@
--- turned
 -- `build_settled::settled` meets its contract, by the m and by whether the node comes before the cycle. Assumes nothing.
 use mathlib.Core.Path.{sym, ◌∙◌}
 use borrow.Author.Rules.{rules}
