@@ -1,4 +1,3 @@
--- turned
 -- `build_factoring::eliminate` eliminates below row k. The loop's invariant: the rows before i are done, and the others are as they were. Assumes nothing.
 use mathlib.Core.Path.{◌≡◌, sym, ap, ◌∙◌}
 use mathlib.Core.List.{[]}

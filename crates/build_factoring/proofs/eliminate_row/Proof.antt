@@ -1,4 +1,3 @@
--- turned
 -- `build_factoring::eliminate_row` eliminates one row. The loop's invariant: of any matrix that was done up to row i, row i is
 -- done in the columns before j. Assumes nothing.
 use mathlib.Core.Path.{◌≡◌, sym, ◌∙◌}

@@ -1,4 +1,3 @@
--- turned
 -- `build_factoring::factor` makes the steps of factoring. The loop's invariant: the first k are made. Assumes nothing.
 use mathlib.Core.Path.{◌≡◌, refl}
 use Prim.Native.Nat.{◌-◌, ◌*◌, ◌≤◌}
