@@ -14,7 +14,8 @@ use Rattle.build_plan.proofs.boundary_numbers.Statement.{statement}
 use Rattle.build_plan.proofs.boundary_numbers.Tie as tie
 
 abbrev invariant-loop : tie.invariant-loop-r
-invariant-loop m axes inv-ds state numbers axis out₀ r₀ out r = (out ≡ filled r (boundary_number axes inv-ds state numbers axis) out₀) × (r ≤ m) × (length out ≡ m)
+invariant-loop m axes inv-ds state numbers axis out₀ r₀ out r =
+    (out ≡ filled r (boundary_number axes inv-ds state numbers axis) out₀) × (r ≤ m) × (length out ≡ m)
 
 abbrev decreases-loop : tie.decreases-loop-r
 decreases-loop m axes inv-ds state numbers axis out₀ r₀ out r = m - r
