@@ -1,4 +1,3 @@
--- turned
 -- `build_solving::backward_step` is the step at row k. The loop's invariant: y has the step's cells below i, and its own from i on,
 -- and x is the number of row k. Assumes nothing.
 use mathlib.Core.Path.{◌≡◌, refl}

@@ -1,4 +1,3 @@
--- turned
 -- `build_solving::solve` solves forward, and then back. The loop's invariant: y is the result after the last d rows. Assumes nothing.
 use mathlib.Core.Path.{◌≡◌, ap, ◌∙◌}
 use Prim.Native.Nat.{◌-◌, ◌≤◌}

@@ -1,4 +1,3 @@
--- turned
 -- `build_solving::solve_matrix` solves column by column. The loop's invariant: out has the first j columns solved, and its own cells from there on.
 -- A turn lends the part for column j. Assumes nothing.
 use mathlib.Core.Path.{◌≡◌, sym, ◌∙◌}
