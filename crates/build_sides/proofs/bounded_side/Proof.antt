@@ -1,4 +1,3 @@
--- turned
 -- `build_sides::bounded_side` meets its contract: what its three calls leave, one after the other, is the definition's right side. Assumes nothing.
 use mathlib.Core.Path.{ap, ◌∙◌}
 use mathlib.Core.Bool.{cond}

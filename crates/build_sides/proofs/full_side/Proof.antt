@@ -1,4 +1,3 @@
--- turned
 -- `build_sides::full_side` meets its contract: past the first node the part that is read is the previous solved right side. Assumes nothing.
 use mathlib.Core.Path.{ap, ap₂, ◌∙◌}
 use mathlib.Core.Bool.{cond}

@@ -1,4 +1,3 @@
--- turned
 -- `build_sides::previous` meets its contract. Assumes nothing.
 use mathlib.Core.Path.{sym}
 use native.Mathlib.Nat.{zero-mul, mul-le-mul_right, sub-le}

@@ -1,4 +1,3 @@
--- turned
 -- `build_sides::solve_node` meets its contract: the parts that are lent to solving are the node's, at the place of the first node that has its matrix.
 -- Assumes nothing.
 use mathlib.Core.Path.{ap, ◌∙◌}

@@ -1,4 +1,3 @@
--- turned
 -- `build_sides::subtract_where` meets its contract, by whether it is asked for. Assumes nothing.
 use borrow.Author.Rules.{rules}
 use Rattle.build_sides.proofs.subtract_where.Statement.{statement}
