@@ -1,4 +1,3 @@
--- turned
 -- `build_nodes::factor_node` factors inner node i and solves C with it, from what its three calls give. Assumes nothing.
 use native.Mathlib.Omega.{arith}
 use borrow.Author.Rules.{rules}

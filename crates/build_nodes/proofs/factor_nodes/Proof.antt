@@ -1,4 +1,3 @@
--- turned
 -- `build_nodes::factor_nodes` goes from node to node. The loop's invariant: the first i nodes are done, each list has their
 -- parts and its own cells from there on. Assumes nothing.
 use mathlib.Core.Path.{◌≡◌}

@@ -1,4 +1,3 @@
--- turned
 -- `build_nodes::node_entries` gives the matrix of inner node i: at the first it copies B, and past it lends the part of solved C that the node before left.
 -- Assumes nothing.
 use mathlib.Core.Path.{◌≡◌, sym, ap, ◌∙◌}

@@ -1,4 +1,3 @@
--- turned
 -- `build_nodes::node_matrix` gives the next node's matrix. The loop's invariant: out has the first r rows, and its own cells from there on.
 -- A turn lends the part for row r. Assumes nothing.
 use Prim.Native.Nat.{◌+◌, ◌*◌, ◌-◌, ◌≤◌}

@@ -1,4 +1,3 @@
--- turned
 -- `build_nodes::node_row` gives row r of the next node's matrix. The loop's invariant: out has the row's cells below c, and its own from c on.
 -- A cell's sum is one row of A times one column of the previous matrix. Assumes nothing.
 use Prim.Native.Nat.{◌+◌, ◌*◌, ◌-◌, ◌≤◌, ◌<◌}
