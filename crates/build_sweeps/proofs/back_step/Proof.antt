@@ -1,4 +1,3 @@
--- turned
 -- `build_sweeps::back_step` meets its contract: node i's part comes back with its numbers, and solved C, kept by columns, is the definition's.
 -- It stands at the place of the first node that has the same. Assumes nothing.
 use mathlib.Core.Path.{sym, ap, ap₂, ◌∙◌}

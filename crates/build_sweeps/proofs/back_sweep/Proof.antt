@@ -1,4 +1,3 @@
--- turned
 -- `build_sweeps::back_sweep` meets its contract. The loop's invariant: from node i − 1 on the list has the nodes' numbers, and below the solved
 -- right sides. Assumes nothing.
 use mathlib.Core.Path.{◌≡◌, sym, ap, ◌∙◌}

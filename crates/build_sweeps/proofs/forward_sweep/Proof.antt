@@ -1,4 +1,3 @@
--- turned
 -- `build_sweeps::forward_sweep` meets its contract. The loop's invariant: the list has the solved right sides of the first i
 -- nodes, and its own cells behind them. Assumes nothing.
 use mathlib.Core.Path.{◌≡◌, sym, ap, ◌∙◌}
