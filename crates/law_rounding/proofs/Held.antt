@@ -1,5 +1,5 @@
--- Numbers that the format holds. Such a number is the only value of its size and sign (`value-unique`), it is rounded to itself (`round-held`), and a
--- difference that is such a number is exact (`difference-held`). Assumes nothing.
+-- Numbers that the format holds. Such a number is the only value of its size and sign (`value_unique`), it is rounded to itself (`round_held`), and a
+-- difference that is such a number is exact (`difference_held`). Assumes nothing.
 use mathlib.Core.Path.{◌≡◌, refl, sym, ap, ap₂, ◌∙◌, subst}
 use mathlib.Core.Logic.{inl, inr}
 use Prim.Native.Nat.{ℕ, zero, suc, ◌+◌, ◌-◌, ◌*◌, ◌/◌, ◌%◌, ◌^◌, ◌≤◌, ◌<◌}

@@ -1,5 +1,5 @@
 -- The kit's operations by their operands' values: which number a bit pattern is, and that a product and a sum of values are the product and the
--- sum of any fractions that the values equal. So x − x is 0 exactly where x is finite: `finite-test`. Assumes nothing.
+-- sum of any fractions that the values equal. So x − x is 0 exactly where x is finite: `finite_test`. Assumes nothing.
 use mathlib.Core.Path.{◌≡◌, refl, sym, ap, ap₂, ◌∙◌, subst}
 use Prim.Native.Nat.compare
 use Prim.Native.Nat.{ℕ, zero, suc, ◌+◌, ◌-◌, ◌*◌, ◌/◌, ◌%◌, ◌^◌, ◌≤◌, ◌<◌, compare}

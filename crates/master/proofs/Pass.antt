@@ -1,4 +1,4 @@
--- What the pass over the table asks and answers is what the definition does: `number_is`, the questions; `met-is`, the equations; `left-next` and `none_left`,
+-- What the pass over the table asks and answers is what the definition does: `number_is`, the questions; `met_is`, the equations; `left_next` and `none_left`,
 -- the table's range. Assumes nothing.
 use mathlib.Core.Path.{◌≡◌, refl, sym, ap, ◌∙◌, subst}
 use mathlib.Core.Bool.{Bool, true, false, not, cond, ◌&&◌}

@@ -1,6 +1,6 @@
 -- Horner's scheme at 1. A segment's coefficients are added up from the highest down, to place 0, then to place 1 and so on. Each number on the
--- way is a sum of binomials times coefficients, `passed`; at the end they are the sums of the equations, `passed-all`. None is so large that it
--- leaves an i64: `passed-most`. Assumes nothing.
+-- way is a sum of binomials times coefficients, `passed`; at the end they are the sums of the equations, `passed_all`. None is so large that it
+-- leaves an i64: `passed_most`. Assumes nothing.
 use mathlib.Core.Path.{◌≡◌, refl, sym, ap, ap₂, ◌∙◌, subst}
 use mathlib.Core.List.{List}
 use mathlib.Core.Logic.{◌⊎◌, inl, inr}

@@ -1,4 +1,4 @@
--- Two good tables of the same waypoints and states are equal: `tables-equal`. Their difference solves the homogeneous equations, so it is zero.
+-- Two good tables of the same waypoints and states are equal: `tables_equal`. Their difference solves the homogeneous equations, so it is zero.
 -- Assumes nothing.
 use mathlib.Core.Path.{◌≡◌, refl, sym, ap, ap₂, ◌∙◌}
 use mathlib.Core.List.{List, [], ◌∷◌}

@@ -1,5 +1,5 @@
 -- The energy of one segment: the integral of the square of its derivative m + 1. Integrated by parts it is what a boundary form W has at the segment's end less
--- what it has at its start: `energy-by-parts`. It is a sum of squares too, so where it is zero all coefficients from m + 1 on are: `upper-zero`. No integral is
+-- what it has at its start: `energy_by_parts`. It is a sum of squares too, so where it is zero all coefficients from m + 1 on are: `upper_zero`. No integral is
 -- taken here: for m = 1, 2 and 3 the solver shows that the two are the same polynomial in the coefficients. Assumes nothing.
 use mathlib.Core.Path.{◌≡◌, refl, sym, ap, ap₂, ◌∙◌}
 use mathlib.Core.Bool.{Bool, true, ◌&&◌}

@@ -1,8 +1,8 @@
 -- Demand 3: "For every two coefficient tables of the same order, be it 3, 5 or 7, and whatever their point counts: if the master check says yes
 -- to each with its own waypoints, start state and end state, the two tables are equal exactly when their waypoints, their start states and their
 -- end states are all equal." And document 01: "Two tables, two waypoint lists or two states are equal when they have the same length and the same
--- number at every place", which is what `≡` of two lists is. Proved by `masters-are-unique`, `two-calls-that-said-yes` and
--- `two-point-masters-are-built` of proofs/Unique.antt. Assumes nothing.
+-- number at every place", which is what `≡` of two lists is. Proved by `masters_are_unique`, `two_calls_that_said_yes` and
+-- `two_point_masters_are_built` of proofs/Unique.antt. Assumes nothing.
 use Rattle.std.specs.Prelude.{◌≡◌, ◌↔◌, List, ℕ, ◌<◌, T, ℤ}
 use Rattle.rules.specs.declared.MasterAnswer.{MasterAnswer}
 use Rattle.rules.specs.declared.MasterAnswer.TheVariants.{Yes}

@@ -1,4 +1,4 @@
--- In a range that the question lets pass, no s that it takes gives a NaN for the position counted in segments: `scaled-is-a-number`. Assumes nothing.
+-- In a range that the question lets pass, no s that it takes gives a NaN for the position counted in segments: `scaled_is_a_number`. Assumes nothing.
 use Rattle.std.proofs.Common.{◌≡◌, Bool, true, false, cond, not, ◌&&◌, T, sym, subst}
 use lib.Ieee.{binary64, lt, le, eq, is_nan}
 use Rattle.rules.specs.declared.PathParam.{PathParam}

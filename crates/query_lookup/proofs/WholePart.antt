@@ -1,5 +1,5 @@
--- A number above 0 and below the count of segments: its whole part is a segment's number (`segment-inside`), and taking the whole part away leaves the
--- rest without rounding (`rest-exact`). Assumes nothing.
+-- A number above 0 and below the count of segments: its whole part is a segment's number (`segment_inside`), and taking the whole part away leaves the
+-- rest without rounding (`rest_exact`). Assumes nothing.
 use Rattle.std.proofs.Common.{◌≡◌, ℕ, zero, suc, ◌+◌, ◌-◌, ◌*◌, ◌/◌, ◌%◌, ◌^◌, ◌<◌, ◌≤◌, min, Bool, true, false, cond, ◌&&◌, ◌||◌, T, eqb, ltb, ℤ, pos, negsuc, sym, refl, ap, ◌∙◌, subst, inl, inr, le_trans, le_refl, lt_of_lt_of_le, le-add_right, lt_of_le_of_lt, le_of_lt, mul-le-mul_right, zero-lt-suc, div-lt_iff_lt-mul, one-mul, div-add-mod', zero-mul, mul-one, div-le_self, div-one, arith, lit≤, ltb→lt, lt→ltb, pow_pos, lt-ltb}
 use native.Mathlib.Nat.{mod-le, mod-eq-sub-div-mul}
 use native.Mathlib.Numerals.{suc-eq-add-one}

@@ -1,5 +1,5 @@
 -- The table of a build fills its buffer exactly: `length-table`. So a build keeps the length of the buffer, whatever it is
--- given: `keeps-length`. Assumes nothing.
+-- given: `keeps_length`. Assumes nothing.
 use mathlib.Core.Path.{◌≡◌, refl, sym, ap₂, ◌∙◌}
 use mathlib.Core.Logic.{◌⊎◌, inl, inr}
 use mathlib.Core.Bool.{Bool, true, false, cond, ◌||◌}

@@ -1,4 +1,4 @@
--- The master check says yes exactly where no question refuses the set and its equations hold: `yes_iff`. What an answer says decides it: `says-decides`.
+-- The master check says yes exactly where no question refuses the set and its equations hold: `yes_iff`. What an answer says decides it: `says_decides`.
 -- Assumes nothing.
 use mathlib.Core.Path.{◌≡◌, refl, sym, ap, ◌∙◌, subst}
 use mathlib.Core.Logic.{◌↔◌}

@@ -1,4 +1,4 @@
--- A query keeps the length of each buffer, whatever it is given: `keeps-length`. And it reads what a build wrote: the coefficients that it takes from a
+-- A query keeps the length of each buffer, whatever it is given: `keeps_length`. And it reads what a build wrote: the coefficients that it takes from a
 -- table for a segment of an axis are that segment's, `read_back`. Assumes nothing.
 use mathlib.Core.Path.{◌≡◌, refl, sym, ap₂, ◌∙◌, subst}
 use mathlib.Core.Bool.{Bool, true, false, cond, not, ◌&&◌, ◌||◌}

@@ -1,6 +1,6 @@
--- The answer 0 means a yes to every question: `said-yes`, at the place of a question in its list. What the first question's answer gives:
--- `yes-to`, `no-to`. What the first of two lists gives: `first-no`, where one of its questions says no, and `first-yes`, where none does. What holds of
--- 0 and of every question's number holds of the answer: `answer-passes`. Assumes nothing.
+-- The answer 0 means a yes to every question: `said_yes`, at the place of a question in its list. What the first question's answer gives:
+-- `yes_to`, `no_to`. What the first of two lists gives: `first_no`, where one of its questions says no, and `first_yes`, where none does. What holds of
+-- 0 and of every question's number holds of the answer: `answer_passes`. Assumes nothing.
 use mathlib.Core.Path.{◌≡◌, refl, sym, subst}
 use mathlib.Core.Bool.{Bool, true, false, not, ◌&&◌}
 use mathlib.Core.List.{List, [], ◌∷◌, ◌++◌}

@@ -137,7 +137,7 @@ pub record Equations (s : MasterSet) : Type 0 where
 -- ---- the answer
 
 -- F11, M8: "Then yes or no; no is not a refusal": what an answer says in document 01's terms. The number is 0 for yes and for no. No two answers say the
--- same: `says-decides` of proofs/Master.antt.
+-- same: `says_decides` of proofs/Master.antt.
 pub record MasterSays : Type 0 where
   pub refused : Bool
   pub number : ℕ

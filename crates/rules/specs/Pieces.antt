@@ -1,4 +1,4 @@
--- The trial pieces of document 01 that are starred, a to l, as one list, and what it is for a piece to hold of the definitions. `starred-hold` of
+-- The trial pieces of document 01 that are starred, a to l, as one list, and what it is for a piece to hold of the definitions. `starred_hold` of
 -- proofs/Pieces.antt is the single claim about all of them. A second list, `further`, has the pieces m, n and o, and a piece for each rule that no piece tells.
 -- Assumes nothing.
 use Rattle.std.specs.Prelude.{ℕ, ◌+◌, ◌-◌, ◌/◌, ◌^◌, Bool, true, false, not, ◌&&◌, ◌||◌, List, [], ◌∷◌, map, ℤ, pos, negsuc, length, replicate, eqb, Float}

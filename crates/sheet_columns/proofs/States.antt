@@ -1,5 +1,5 @@
--- How many numbers each list of a state has: no list has fewer (`columns-long`), and the question about a state is whether each list is m long
--- (`states-one-by-one`). Assumes nothing.
+-- How many numbers each list of a state has: no list has fewer (`columns_long`), and the question about a state is whether each list is m long
+-- (`states_one_by_one`). Assumes nothing.
 use mathlib.Core.Path.{◌≡◌, refl, sym, ap, ◌∙◌}
 use mathlib.Core.Bool.{Bool, true, false, cond, ◌&&◌}
 use mathlib.Core.List.{List, [], ◌∷◌}

@@ -1,5 +1,5 @@
 -- J26: "303 for a state list on any axis not m long": what is built says yes to the question about a state exactly when the list of each axis is m
--- long, so no sum of lengths stands for them. Proved by `states-one-by-one` of proofs/States.antt. Assumes nothing.
+-- long, so no sum of lengths stands for them. Proved by `states_one_by_one` of proofs/States.antt. Assumes nothing.
 use Rattle.std.specs.Prelude.{◌≡◌, false, List, ℕ, ◌≤◌, eqb, ℤ, length}
 use Rattle.law_lists.specs.Lists.{all}
 use Rattle.rules.specs.declared.BoundaryState.TheVariants.{Given}

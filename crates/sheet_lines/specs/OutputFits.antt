@@ -1,4 +1,4 @@
--- How long the output can be. Proved by `output-fits` of proofs/Fits.antt. Assumes nothing.
+-- How long the output can be. Proved by `output_fits` of proofs/Fits.antt. Assumes nothing.
 use Rattle.std.specs.Prelude.{◌≡◌, List, ℕ, ◌*◌, ◌^◌, ◌<◌, ◌≤◌, length, Float}
 use Rattle.rules.specs.declared.PathRecord.{PathRecord}
 use Rattle.rules.specs.SheetAnswers.{table_output, refused_output, most_bytes}

@@ -31,7 +31,7 @@ state_of s =
     (cond (eqb s.kind 2) (Given s.rows s.columns true)
     (Given 18446744073709551615 s.columns false)))
 
--- So an unknown kind gets 303 in its place, whatever comes with it. Proved by `unknown-kinds-fit-nothing` of proofs/States.antt.
+-- So an unknown kind gets 303 in its place, whatever comes with it. Proved by `unknown_kinds_fit_nothing` of proofs/States.antt.
 unfoldable pub UnknownKindsFitNothing : Type 0
 UnknownKindsFitNothing =
     (s : RawState) (axes m : ℕ) (numbers : List Float) → 3 ≤ s.kind → T (valid_axes axes) → valid_state axes m (state_of s) numbers ≡ false
@@ -84,11 +84,11 @@ record_of p = record {
 abbrev pub answer_of : BuildAnswer → RawAnswer
 answer_of a = record { number = a.number; path = record_of a.path }
 
--- A query of the record that a build handed over is one of the build's own. Proved by `records-come-back` of proofs/Records.antt.
+-- A query of the record that a build handed over is one of the build's own. Proved by `records_come_back` of proofs/Records.antt.
 unfoldable pub RecordsComeBack : Type 0
 RecordsComeBack = (p : PathRecord) → path_of (record_of p) ≡ p
 
--- A build that refuses hands the all-zero record over, and so does its preview. Proved by `refusals-are-blank` of proofs/Records.antt.
+-- A build that refuses hands the all-zero record over, and so does its preview. Proved by `refusals_are_blank` of proofs/Records.antt.
 unfoldable pub RefusalsAreBlank : Type 0
 RefusalsAreBlank =
     (b : BuildInput) (cells : ℕ) → (build_number b cells ≡ 0 → ⊥)
@@ -99,7 +99,7 @@ RefusalsAreBlank =
 unfoldable pub check_of : MasterSays → RawCheck
 check_of says = record { number = cond says.refused says.number 0; good = cond says.good 1 0 }
 
--- good is 1 exactly where the check says yes, and never beside a refusal. Proved by `good-is-yes` of proofs/Numbers.antt.
+-- good is 1 exactly where the check says yes, and never beside a refusal. Proved by `good_is_yes` of proofs/Numbers.antt.
 unfoldable pub GoodIsYes : Type 0
 GoodIsYes =
     (s : MasterSet)
@@ -134,7 +134,7 @@ unfoldable pub one_of : List ℕ → ℕ → Bool
 one_of [] n = false
 one_of (k ∷ rest) n = eqb n k || one_of rest n
 
--- There are no others. Proved by `numbers-are-listed` of proofs/Numbers.antt.
+-- There are no others. Proved by `numbers_are_listed` of proofs/Numbers.antt.
 unfoldable pub NumbersAreListed : Type 0
 NumbersAreListed =
     ((b : BuildInput) (cells : ℕ) → T (one_of build_numbers (build_number b cells)))

@@ -1,4 +1,4 @@
--- An axis's part of an accepted build's buffer is what the rules compute for that axis: `part-is`. Assumes nothing.
+-- An axis's part of an accepted build's buffer is what the rules compute for that axis: `part_is`. Assumes nothing.
 use mathlib.Core.Path.{◌≡◌, sym, ap, ap₂, ◌∙◌}
 use mathlib.Core.List.{List}
 use Prim.Native.Nat.{ℕ, ◌+◌, ◌*◌, ◌-◌, ◌<◌, ◌≤◌}

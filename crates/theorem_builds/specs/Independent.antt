@@ -1,6 +1,6 @@
 -- Axes are independent, as document 01 has it: "Two accepted builds of the same order and point count, with state marks and range alike, that agree bit for
 -- bit on an axis's waypoints and states give that axis the same coefficients." It holds between any axis of the one build and any axis of the other, however
--- many axes each has. Proved by `axes-are-independent` of proofs/Independent.antt. Assumes nothing.
+-- many axes each has. Proved by `axes_are_independent` of proofs/Independent.antt. Assumes nothing.
 use Rattle.std.specs.Prelude.{◌≡◌, Bool, false, List, ℕ, ◌+◌, ◌*◌, ◌-◌, ◌<◌, take, drop, Float}
 use Rattle.rules.specs.declared.BoundaryState.{BoundaryState}
 use Rattle.rules.specs.declared.BoundaryState.TheVariants.{None, Given}

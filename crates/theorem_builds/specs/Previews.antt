@@ -1,6 +1,6 @@
 -- Ask before the build, Wish 3 of document 02: a preview "gives the number and record that the build would give on a copy of everything. Proved equal for
 -- every input." Of two calls that are given the same, a preview that is told a length and a build into any buffer of that length. Proved by
--- `preview-is-the-build` of proofs/Previews.antt; `preview_then_build` of crates/build_previewed makes the two calls, so that what is supposed of them
+-- `preview_is_the_build` of proofs/Previews.antt; `preview_then_build` of crates/build_previewed makes the two calls, so that what is supposed of them
 -- here is what their contracts promise. Assumes nothing.
 use Rattle.std.specs.Prelude.{◌≡◌, cond, List, ℕ, eqb, length, Float}
 use Rattle.rules.specs.declared.BuildAnswer.{BuildAnswer}

@@ -1,5 +1,5 @@
 -- What a build handed over, a query serves: of the record of an accepted build with its table only the last three questions before a query can
--- say no, those about the level, the buffers' lengths and s. Proved by `built-paths-are-served` of proofs/Served.antt. Assumes nothing.
+-- say no, those about the level, the buffers' lengths and s. Proved by `built_paths_are_served` of proofs/Served.antt. Assumes nothing.
 use Rattle.std.specs.Prelude.{◌≡◌, ℕ, ◌++◌}
 use Rattle.rules.specs.declared.PathParam.{PathParam}
 use Rattle.rules.specs.Questions.{first_no}

@@ -1,6 +1,6 @@
 -- The evaluation of whole numbers is exact at both ends of a segment: document 01 asks for the evaluation "with exact whole-number cases". For the orders 3, 5
 -- and 7 alike, fused steps and general loop, for the position and the first three derivatives in segment units, of coefficients that are whole and within 2^40.
--- Proved by `whole-numbers-evaluate-exactly` of proofs/Evaluation.antt. Assumes nothing.
+-- Proved by `whole_numbers_evaluate_exactly` of proofs/Evaluation.antt. Assumes nothing.
 use Rattle.std.specs.Prelude.{◌≡◌, List, ℕ, ◌+◌, ◌≤◌, T, ℤ, pos, ◌*ℤ◌, length, Float}
 use Rattle.law_rounding.specs.Whole.{is_whole, whole_of}
 use Rattle.rules.specs.Floats.{◌!◌, +0, +1}

@@ -1,6 +1,6 @@
 -- A set to which the check says yes evaluates to what it was made from: by the evaluation in floats each segment starts and ends at its waypoints,
 -- the first and the last have the states as derivatives there, and at a joint two segments agree. Nothing is rounded, for the orders 3, 5 and 7.
--- Proved by `masters-evaluate-exactly` and `two-points-evaluate-exactly` of proofs/Masters.antt. Assumes nothing.
+-- Proved by `masters_evaluate_exactly` and `two_points_evaluate_exactly` of proofs/Masters.antt. Assumes nothing.
 use Rattle.std.specs.Prelude.{◌≡◌, List, ℕ, suc, ◌+◌, ◌*◌, ◌<◌, ◌≤◌, T, pos, ◌*ℤ◌, length, Float}
 use Rattle.law_rounding.specs.Whole.{is_whole, whole_of}
 use Rattle.rules.specs.Floats.{◌!◌, +0, +1}

@@ -1,6 +1,6 @@
 -- Two-point builds of whole numbers are exact, as document 01 has it: "For two points whose numbers, given states included, are whole and within 2^40, the
 -- build from unmarked states is exact: every axis meets the endpoint equations below. The check says yes to each axis whose coefficients are within ±2^40 too;
--- otherwise it gives 4." For the orders 3, 5 and 7, and any number of axes that a build takes. Proved by `two-points-are-exact` of proofs/Exact.antt.
+-- otherwise it gives 4." For the orders 3, 5 and 7, and any number of axes that a build takes. Proved by `two_points_are_exact` of proofs/Exact.antt.
 -- Assumes nothing.
 use Rattle.std.specs.Prelude.{◌≡◌, Bool, true, false, cond, ◌&&◌, List, map, ℕ, ◌<◌, T, Float}
 use Rattle.law_rounding.specs.Whole.{is_whole, whole_of}

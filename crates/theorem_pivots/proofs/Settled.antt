@@ -1,4 +1,4 @@
--- The node that has a node's matrix is among the first that have all of them: `settled-below`; how many those are. Assumes nothing.
+-- The node that has a node's matrix is among the first that have all of them: `settled_below`; how many those are. Assumes nothing.
 use mathlib.Core.Path.{◌≡◌, refl}
 use mathlib.Core.Bool.{Bool, true, false, cond}
 use Prim.Native.Nat.{ℕ, ◌+◌, ◌-◌, ◌%◌, ◌<◌, ◌≤◌, min}

@@ -1,6 +1,6 @@
 -- Theorems on job sheets, by document 02's Wish 1: which texts the judge of crates/rules/specs accepts, and where it refuses the others. Proved in
--- proofs/: `accepted-are-sheets`, `judged-are-sheets` and `one-reading` of Claims.antt, `faults-place` of Faults.antt, and `first-of-three`,
--- `first-is-one`, `sizes-are-earliest` and `refusals-are-earliest` of Precedence.antt. Assumes nothing.
+-- proofs/: `accepted_are_sheets`, `judged_are_sheets` and `one_reading` of Claims.antt, `faults_place` of Faults.antt, and `first_of_three`,
+-- `first_is_one`, `sizes_are_earliest` and `refusals_are_earliest` of Precedence.antt. Assumes nothing.
 use Rattle.std.specs.Prelude.{◌≡◌, ◌↔◌, ◌⊎◌, ℕ, ◌-◌, ◌≤◌, length, take}
 use mathlib.Core.List.{List, [], Memᴰ}
 use Rattle.rules.specs.Sheets.{Sheet, spell_sheet, Free, Limited}
@@ -52,7 +52,7 @@ RefusalsAreEarliest =
     → FirstOfThree (take longest t) k place
     ⊎ ((length t ≤ longest) × ((s : Sheet) × Limited s × (spell_sheet s ≡ t) × (sized s (sizes s) ≡ refused k place)))
 
--- J16, J23, J24: the numbers that the judge refuses with: the first of the three, or one of the sizes. Proved by `judged-numbers` of Numbers.antt.
+-- J16, J23, J24: the numbers that the judge refuses with: the first of the three, or one of the sizes. Proved by `judged_numbers` of Numbers.antt.
 abbrev pub JudgeNumber : ℕ → Type 0
 JudgeNumber k = (k ≡ 600) ⊎ (k ≡ 601) ⊎ (k ≡ 4) ⊎ (k ≡ 2) ⊎ (k ≡ 3)
 
