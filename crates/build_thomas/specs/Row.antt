@@ -1,7 +1,6 @@
 -- What an axis is filled with, and its segments. Assumes nothing.
 use Rattle.std.specs.Prelude.{◌≡◌, ℕ, suc, ◌+◌, ◌*◌, ◌≤◌, List, length, Float}
 use Rattle.rules.specs.Floats.{◌!◌}
-use Rattle.rules.specs.Solve.{solved_c_of}
 use Rattle.rules.specs.Build.{dy, segment_coefficients}
 use Rattle.build_products.specs.Columns.{HoldsH}
 use Rattle.build_tables.specs.declared.BlockMatrices.{BlockMatrices}

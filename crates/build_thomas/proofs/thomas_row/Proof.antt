@@ -1,4 +1,3 @@
--- turned
 -- `build_thomas::thomas_row` meets its contract: the sides are solved, the nodes' numbers found from them, and the segments
 -- written from those. Assumes nothing.
 use mathlib.Core.Path.{◌≡◌, ap, ◌∙◌}

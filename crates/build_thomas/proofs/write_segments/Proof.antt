@@ -1,4 +1,3 @@
--- turned
 -- `build_thomas::write_segments` meets its contract. The loop's invariant: the chunk has the first i segments, and its own cells from there on.
 -- A turn lends the part for segment i. Assumes nothing.
 use mathlib.Core.Path.{◌≡◌, sym, ap, ◌∙◌}
