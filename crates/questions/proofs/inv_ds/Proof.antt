@@ -1,4 +1,3 @@
--- turned
 -- A count up to 256 is a float as it is, and the rest is the definition. Assumes nothing.
 use mathlib.Core.Path.{refl}
 use native.Mathlib.Omega.{arith}

@@ -1,4 +1,3 @@
--- turned
 -- x − x is 0 exactly where x is finite. Assumes nothing.
 use Rattle.law_rounding.proofs.Values.{finite_test}
 use Rattle.questions.proofs.is_finite.Statement.{statement}

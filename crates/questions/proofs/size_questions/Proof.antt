@@ -1,4 +1,3 @@
--- turned
 -- Each way out is a question's no, or a yes to all. Assumes nothing.
 use borrow.Author.Rules.{rules}
 use borrow.Author.Tests.{le-leb, lt-leb}

@@ -1,4 +1,3 @@
--- turned
 -- The quotient decides alone, by the law of the range. Assumes nothing.
 use lib.Ieee.{of_bits}
 use borrow.Author.Rules.{rules}
