@@ -1,4 +1,3 @@
--- turned
 -- Assumes nothing.
 use Rattle.std.proofs.Common.{sym, lit≤}
 use Rattle.fused_words.proofs.Carry.{flag_yes, flag_no}

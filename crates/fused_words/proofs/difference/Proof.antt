@@ -1,4 +1,3 @@
--- turned
 -- The difference of the low words and what was subtracted sum up to the low word again, and the borrow is that sum's carry. Assumes nothing.
 use Rattle.std.proofs.Common.{◌+◌, ◌^◌, ◌≤◌, arith, rules}
 use Rattle.fused_words.proofs.Carry.{borrow_room, subtracted}

@@ -1,4 +1,3 @@
--- turned
 -- Assumes nothing.
 use Rattle.fused_words.proofs.Carry.{less_low, less_high}
 use Rattle.fused_words.proofs.less.Statement.{statement}

@@ -1,4 +1,3 @@
--- turned
 -- Assumes nothing.
 use Rattle.std.proofs.Common.{refl, arith, rules}
 use Rattle.fused_words.proofs.marked.Statement.{statement}

@@ -1,4 +1,3 @@
--- turned
 -- By halves of 32 bits. The middle column's two products have 63 bits each, so their sum fits. Assumes nothing.
 use Rattle.std.proofs.Common.{ℕ, ◌+◌, ◌*◌, ◌/◌, ◌%◌, ◌^◌, ◌<◌, ap, ◌∙◌, lt_of_lt_of_le, mod-lt, arith, lit≤, pow_pos, shl_lt, shr_lt, rules}
 use lib.Pow.{add-lt-pow}

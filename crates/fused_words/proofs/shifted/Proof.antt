@@ -1,4 +1,3 @@
--- turned
 -- Assumes nothing.
 use Rattle.std.proofs.Common.{ℕ, ◌+◌, ◌*◌, ◌^◌, sym, ap, ◌∙◌, subst, inl, le_of_lt, zero-add, mul-one, rules}
 use mir.Facts.{Fits-bits}

@@ -1,4 +1,3 @@
--- turned
 -- Assumes nothing.
 use Rattle.std.proofs.Common.{rules}
 use Rattle.fused_words.proofs.Shift.{back_le, word_shifted, word_gone}

@@ -1,4 +1,3 @@
--- turned
 -- The low words' sum and its carry are the low words' exact sum. Assumes nothing.
 use Rattle.std.proofs.Common.{◌^◌, arith, rules}
 use Rattle.fused_words.proofs.Carry.{added}
