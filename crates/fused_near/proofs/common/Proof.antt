@@ -1,4 +1,3 @@
--- turned
 -- Assumes nothing.
 use mathlib.Core.Path.{sym, subst}
 use lib.Dec.{T}

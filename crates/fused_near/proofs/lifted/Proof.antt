@@ -1,4 +1,3 @@
--- turned
 -- Assumes nothing.
 use borrow.Author.Rules.{rules}
 use Rattle.fused_near.proofs.Convert.{lifted_is}
