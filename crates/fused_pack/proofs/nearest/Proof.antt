@@ -1,4 +1,3 @@
--- turned
 -- Assumes nothing.
 use borrow.Author.Rules.{rules}
 use Rattle.fused_pack.proofs.Round.{nearest_is}
