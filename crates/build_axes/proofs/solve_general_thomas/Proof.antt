@@ -1,4 +1,3 @@
--- turned
 -- `build_axes::solve_general_thomas` meets its contract: the matrices that differ are factored, and the axes filled with them. Assumes nothing.
 use native.Mathlib.Omega.{arith}
 use Rattle.build_sweeps.proofs.AllNodes.{room_for, node_factors_lem, node_solved_lem}
