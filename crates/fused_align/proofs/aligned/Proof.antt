@@ -1,4 +1,3 @@
--- turned
 -- Each branch is a case of proofs/Cases.antt. Assumes nothing.
 use mathlib.Core.Path.{◌≡◌, sym, ap, ◌∙◌, subst}
 use Prim.Native.Nat.{ℕ, ◌+◌, ◌*◌, ◌^◌, ◌<◌}
