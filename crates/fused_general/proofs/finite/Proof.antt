@@ -1,4 +1,3 @@
--- turned
 -- Assumes nothing.
 use Rattle.law_rounding.proofs.Values.{finite_test}
 use Rattle.fused_general.proofs.finite.Statement.{statement}

@@ -1,4 +1,3 @@
--- turned
 -- Each way out for an operand that is not finite is a law of proofs/Values.antt. Assumes nothing.
 use mathlib.Core.Path.{◌≡◌}
 use mathlib.Core.Bool.{true}

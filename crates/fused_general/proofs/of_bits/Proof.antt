@@ -1,4 +1,3 @@
--- turned
 -- Assumes nothing.
 use mathlib.Core.Path.{◌∙◌}
 use mathlib.Core.Bool.{Bool}

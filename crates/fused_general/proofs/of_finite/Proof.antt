@@ -1,4 +1,3 @@
--- turned
 -- Each way out is a law of proofs/Operands.antt. Assumes nothing.
 use mathlib.Core.Path.{◌≡◌, sym, ◌∙◌}
 use Prim.Native.Nat.{ℕ, ◌<◌}

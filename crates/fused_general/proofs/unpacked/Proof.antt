@@ -1,4 +1,3 @@
--- turned
 -- Assumes nothing.
 use Prim.Native.Nat.{ℕ, ◌%◌, ◌^◌, ◌≤◌, ◌<◌}
 use lib.Count.{count_leading_zeros}
