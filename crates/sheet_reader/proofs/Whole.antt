@@ -3,14 +3,14 @@ use Prim.{Unit, tt}
 use mathlib.Core.Path.{◌≡◌, refl, sym, ap, ap₂, subst, ◌∙◌}
 use mathlib.Core.Bool.{Bool, true, false}
 use mathlib.Core.List.{List, [], ◌∷◌, ◌++◌}
-use Prim.Native.Nat.{ℕ, suc, ◌-◌, ◌≤◌, ◌<◌}
+use Prim.Native.Nat.{ℕ, suc, ◌+◌, ◌-◌, ◌≤◌, ◌<◌}
 use native.Mathlib.Omega.{arith}
 use lib.IntN.{ℤ}
 use lib.ListN.{length, take, drop, length-drop, length-take, drop_of_length-le}
 use lib.Dec.{ltb, eqb}
 use borrow.Author.Tests.{le-leb, lt-leb}
 use Rattle.rules.specs.declared.SheetPlace.{SheetPlace}
-use Rattle.rules.specs.Sheets.{Items, one, more, states, Axis, axis, Axes, only, next, heading, range, Sheet, sheet, within, below4}
+use Rattle.rules.specs.Sheets.{Items, one, more, states, Axis, axis, spell_axis, Axes, only, next, heading, range, Sheet, sheet, within, below4}
 use Rattle.rules.specs.SheetReading as reading
 use Rattle.rules.specs.SheetFaults.{
   Refusal,
@@ -85,7 +85,7 @@ numbered_axis c place (axis p (states s e)) =
 numbered_axes : (c place : ℕ) (axes : Axes) → Numbered (axes_sizes c place axes)
 unfolding axes_sizes
 numbered_axes c place (only a) = numbered_axis c place a
-numbered_axes c place (next a axes) = numbered_both (axis_sizes c place a) _ (numbered_axis c place a) (numbered_axes c _ axes)
+numbered_axes c place (next a axes) = numbered_both (axis_sizes c place a) _ (numbered_axis c place a) (numbered_axes c (place + length (spell_axis a)) axes)
 
 -- so the number 0 says that there is none, and any other that it is the first
 none_first : (xs : List Refusal) → Numbered xs → (k place : ℕ) → place_of k place ≡ first_place xs → k ≡ 0 → xs ≡ []

@@ -1,3 +1,4 @@
+-- turned
 -- `sheet_reader::cut` meets its contract. Assumes nothing.
 use borrow.Author.Rules.{rules}
 use Rattle.sheet_reader.proofs.cut.Statement.{statement}
@@ -10,6 +11,6 @@ cut_spec =
     (λ c. search rules)
     (λ c. search rules)
     (λ c. search rules)
-    (λ c. rw c.enum_told.given.1)
-    (λ c. rw c.enum-told2.given.1)
-    (λ c. rw c.before.read.given.1))
+    (λ c. rw c.in-Is.is)
+    (λ c. rw c.in-Sized.is)
+    (λ c. rw c.in-Stopped.is))
