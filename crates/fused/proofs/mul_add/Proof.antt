@@ -1,4 +1,3 @@
--- turned
 -- In the common case the result is the sum of the magnitudes (`common_shifted`), and so is the definition (`by_bits`). Assumes nothing.
 use Rattle.std.proofs.Common.{◌≡◌, ℕ, ◌+◌, ◌-◌, ◌<◌, ◌≤◌, sym, ◌∙◌, lt_of_lt_of_le, arith, lit≤, rules}
 use lib.Ieee.{binary64, to_bits}

@@ -1,4 +1,3 @@
--- turned
 -- Assumes nothing.
 use Rattle.law_rounding.proofs.NotNan.{number_test}
 use Rattle.fused.proofs.number.Statement.{statement}
