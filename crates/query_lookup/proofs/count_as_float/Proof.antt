@@ -1,4 +1,3 @@
--- turned
 -- A small count is the same number signed, and its float is exact. Assumes nothing.
 use Rattle.std.proofs.Common.{◌≡◌, T, ℤ, pos, sym, ap, subst, le_trans, lt_of_le_of_lt, lit≤, le→leb, w64, to_z, rules}
 use lib.Ieee.{binary64, in_float, of_int}

@@ -1,4 +1,3 @@
--- turned
 -- Above 0 and below the count the truncation is the whole part (`truncation`), and taking it away leaves the exact rest (`rest_exact`). Assumes nothing.
 use Rattle.std.proofs.Common.{◌≡◌, ℕ, ◌^◌, ◌≤◌, refl, ap, ◌∙◌, le_trans, le_of_lt, lit≤, le→leb, rules}
 use lib.Ieee.{Float, of_bits, in_float}

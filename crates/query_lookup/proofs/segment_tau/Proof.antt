@@ -1,4 +1,3 @@
--- turned
 -- The answer is the definition's by those of the three functions called; what `located` asks for is `scaled_is_a_number`. Assumes nothing.
 use Rattle.std.proofs.Common.{◌≡◌, true, sym, ap, ◌∙◌, rules}
 use Rattle.rules.specs.Query.{in_range, scaled, lookup, lookup_says}
