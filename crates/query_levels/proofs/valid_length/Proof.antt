@@ -1,4 +1,3 @@
--- turned
 -- A level below k does not write derivative k. Assumes nothing.
 use borrow.Author.Tests.{le-leb, lt-leb}
 use Rattle.query_levels.proofs.valid_length.Statement.{statement}

@@ -1,4 +1,3 @@
--- turned
 -- Each way out is the first buffer that does not fit, or the last one's answer. Assumes nothing.
 use borrow.Author.Rules.{rules}
 use Rattle.questions.proofs.Tests.{no, yes, both, last_decides}

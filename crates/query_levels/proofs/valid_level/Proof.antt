@@ -1,4 +1,3 @@
--- turned
 -- Each way out says which of the three tests passed, or that the last decides. Assumes nothing.
 use borrow.Author.Tests.{ne_eqb}
 use Rattle.rules.specs.Query.{valid_level}
