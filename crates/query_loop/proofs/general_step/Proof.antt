@@ -1,4 +1,3 @@
--- turned
 -- `query_loop::general_step` meets its contract: at each level its numbers are the loop's own. Assumes nothing.
 use mathlib.Core.Path.{◌≡◌, ◌∙◌}
 use lib.Ieee.{of_bits, of_int}

@@ -1,4 +1,3 @@
--- turned
 -- `query_loop::position` meets its contract. Assumes nothing.
 use mathlib.Core.Path.{refl}
 use lib.Ieee.{of_bits}

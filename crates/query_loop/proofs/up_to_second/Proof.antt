@@ -1,4 +1,3 @@
--- turned
 -- `query_loop::up_to_second` meets its contract. Assumes nothing.
 use mathlib.Core.Path.{refl}
 use lib.Ieee.{of_bits}
