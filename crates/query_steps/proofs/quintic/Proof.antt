@@ -1,4 +1,3 @@
--- turned
 -- `query_steps::quintic` meets its contract: its steps are those of each derivative. Assumes nothing.
 use mathlib.Core.Path.{◌≡◌, ◌∙◌}
 use Prim.Native.Nat.{ℕ}

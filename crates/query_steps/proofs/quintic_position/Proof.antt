@@ -1,4 +1,3 @@
--- turned
 -- `query_steps::quintic_position` meets its contract: its steps are the position's. Assumes nothing.
 use borrow.Author.Rules.{rules}
 use Rattle.law_lists.specs.Lists.{listed}
