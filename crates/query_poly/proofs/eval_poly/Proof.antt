@@ -1,4 +1,3 @@
--- turned
 -- `query_poly::eval_poly` meets its contract: a valid order that is neither 3 nor 5 is 7, and each level is a case. Assumes nothing.
 use mathlib.Core.Path.{◌≡◌, refl, ap, ◌∙◌}
 use Prim.Native.Nat.{ℕ, ◌+◌}

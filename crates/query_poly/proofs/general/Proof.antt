@@ -1,4 +1,3 @@
--- turned
 -- `query_poly::general` meets its contract. The loop's invariant: b is what the level asks for of the coefficients from k on. The measure is k. Assumes
 -- nothing.
 use mathlib.Core.Path.{sym, subst}
