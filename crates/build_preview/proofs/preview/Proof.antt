@@ -1,4 +1,3 @@
--- turned
 -- `build_preview::preview` meets its contract. Its two ways out are a no to one of the questions, and a yes to all. Assumes nothing.
 use mathlib.Core.Path.{◌≡◌, sym, ◌∙◌}
 use Prim.Native.Nat.{ℕ}

@@ -1,4 +1,3 @@
--- turned
 -- The loop's invariant: all the numbers are finite exactly where those from i on are. Assumes nothing.
 use mathlib.Core.Path.{◌≡◌, refl, ◌∙◌, sym}
 use Prim.Native.Nat.{◌-◌, ◌≤◌}

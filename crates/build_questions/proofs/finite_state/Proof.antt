@@ -1,4 +1,3 @@
--- turned
 -- Each way out is a case of the definition, by the state's variant. Assumes nothing.
 use borrow.Author.Rules.{rules}
 use mathlib.Core.Path.{◌∙◌}

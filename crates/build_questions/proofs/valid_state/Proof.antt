@@ -1,4 +1,3 @@
--- turned
 -- Each way out is a case of the definition, by the state's variant and the tests passed. Assumes nothing.
 use mathlib.Core.Path.{◌≡◌}
 use mathlib.Core.Bool.{Bool, false}

@@ -1,4 +1,3 @@
--- turned
 -- `build_records::accepted` meets its contract: field by field. Assumes nothing.
 use borrow.Author.Rules.{rules}
 use Rattle.rules.specs.Build.{accepted_record}

@@ -1,4 +1,3 @@
--- turned
 -- `build_records::no_path` meets its contract. Assumes nothing.
 use mathlib.Core.Path.{refl}
 use lib.Ieee.{of_bits}

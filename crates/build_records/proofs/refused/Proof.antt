@@ -1,4 +1,3 @@
--- turned
 -- `build_records::refused` meets its contract. Assumes nothing.
 use borrow.Author.Rules.{rules}
 use Rattle.build_records.proofs.refused.Statement.{statement}

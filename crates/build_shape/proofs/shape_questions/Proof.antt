@@ -1,4 +1,3 @@
--- turned
 -- `build_shape::shape_questions` meets its contract: each way out is the next question's no, or a yes to all. Assumes nothing.
 use mathlib.Core.Path.{◌≡◌, sym, ◌∙◌}
 use mathlib.Core.List.{List, []}

@@ -1,4 +1,3 @@
--- turned
 -- A no of the first questions is the answer, and else the pass over the table answers. Assumes nothing.
 use mathlib.Core.Path.{◌≡◌, sym, ◌∙◌}
 use native.Mathlib.Omega.{arith}

@@ -1,4 +1,3 @@
--- turned
 -- The loop's invariant: of the segments behind it all numbers are within ±2^40, and `good` says whether their equations hold, the start state's with them.
 -- Assumes nothing.
 use mathlib.Core.Path.{◌≡◌, refl, sym, ap, ◌∙◌}

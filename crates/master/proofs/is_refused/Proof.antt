@@ -1,4 +1,3 @@
--- turned
 -- By the three answers. Assumes nothing.
 use mathlib.Core.Path.{sym, ap}
 use mathlib.Core.Bool.{Bool}

@@ -1,4 +1,3 @@
--- turned
 -- `master_equations::meets` compares one place after the other. The loop's invariant: those before r are the same. Assumes nothing.
 use mathlib.Core.Path.{◌≡◌, refl, sym}
 use mathlib.Core.Bool.{true}

@@ -1,4 +1,3 @@
--- turned
 -- The first segment starts where the table does. Assumes nothing.
 use mathlib.Core.Path.{sym, ◌∙◌}
 use borrow.Author.Rules.{rules}

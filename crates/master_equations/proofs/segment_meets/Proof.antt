@@ -1,4 +1,3 @@
--- turned
 -- `master_equations::segment_meets` makes the tests of a segment one after the other. Assumes nothing.
 use mathlib.Core.Path.{◌≡◌}
 use mathlib.Core.Bool.{true, cond, ◌&&◌}

@@ -1,4 +1,3 @@
--- turned
 -- The first list with a number out of range decides, and else the last one does. Assumes nothing.
 use borrow.Author.Rules.{rules}
 use Rattle.questions.proofs.Tests.{no, yes, both, last_decides}

@@ -1,4 +1,3 @@
--- turned
 -- `past_k` says that the first k questions were answered with yes at a place behind them, so that the rest decides. Each way out is the next
 -- question's no, or a yes to all. Assumes nothing.
 use mathlib.Core.Path.{◌≡◌, sym, ◌∙◌}

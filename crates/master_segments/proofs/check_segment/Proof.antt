@@ -1,4 +1,3 @@
--- turned
 -- Each m by itself: the answer is the same. Assumes nothing.
 use mathlib.Core.Path.{◌≡◌, subst}
 use mathlib.Core.List.{List}

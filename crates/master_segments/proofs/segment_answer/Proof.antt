@@ -1,4 +1,3 @@
--- turned
 -- The range first, then the equations. Assumes nothing.
 use mathlib.Core.Path.{◌≡◌, sym, ap, ◌∙◌}
 use mathlib.Core.Bool.{true}

@@ -1,4 +1,3 @@
--- turned
 -- By the answers that the arms are for. Assumes nothing.
 use borrow.Author.Rules.{rules}
 use Rattle.rules.specs.Master.{master_says}

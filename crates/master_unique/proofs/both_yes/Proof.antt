@@ -1,4 +1,3 @@
--- turned
 -- A yes is one to two sets that the check says yes to, and demand 3 speaks of those. Assumes nothing.
 use mathlib.Core.Path.{◌≡◌, refl, sym, ap, ap₂, ◌∙◌, subst}
 use mathlib.Core.Bool.{true, ◌&&◌}

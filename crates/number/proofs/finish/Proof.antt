@@ -1,4 +1,3 @@
--- turned
 -- `number::finish` meets its contract: the tests are those of the definition. Assumes nothing.
 use mathlib.Core.Path.{sym, ap, ◌∙◌}
 use mir.Facts.{to_z-of_z}

@@ -1,4 +1,3 @@
--- turned
 -- `number::go_on` meets its contract: two bytes, and the others. Assumes nothing.
 use borrow.Author.Rules.{rules}
 use Rattle.number.proofs.Two.{two_and_others, after_two}

@@ -1,4 +1,3 @@
--- turned
 -- `number::is_large` meets its contract. Assumes nothing.
 use mathlib.Core.Bool.{and-false, and-true}
 use borrow.Author.Rules.{rules}

@@ -1,4 +1,3 @@
--- turned
 -- `number::is_read` meets its contract. Assumes nothing.
 use mathlib.Core.Path.{◌≡◌}
 use mathlib.Core.Bool.{and-false, and-true}

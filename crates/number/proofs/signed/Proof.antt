@@ -1,4 +1,3 @@
--- turned
 -- `number::signed` meets its contract: a size up to 2^40 fits, and so does its opposite. Assumes nothing.
 use mathlib.Core.Path.{◌≡◌}
 use Prim.Native.Nat.{ℕ, zero, suc, ◌≤◌, ◌^◌}

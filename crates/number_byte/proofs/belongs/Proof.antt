@@ -1,4 +1,3 @@
--- turned
 -- `number_byte::belongs` meets its contract: what a digit is depends on the stage. Assumes nothing.
 use Rattle.std.proofs.Common.{◌≡◌, ℕ, arith, rules, eq-eqb, ne_eqb, le-leb}
 use borrow.Author.Tests.{lt-leb}

@@ -1,4 +1,3 @@
--- turned
 -- `number_byte::is_first` meets its contract. Assumes nothing.
 use Rattle.std.proofs.Common.{eq-eqb, ne_eqb}
 use Rattle.number_byte.proofs.is_first.Statement.{statement}

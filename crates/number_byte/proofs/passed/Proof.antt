@@ -1,4 +1,3 @@
--- turned
 -- `number_byte::passed` meets its contract. Assumes nothing.
 use Rattle.std.proofs.Common.{rules}
 use Rattle.number_byte.proofs.passed.Statement.{statement}

@@ -1,4 +1,3 @@
--- turned
 -- `number_byte::taken` meets its contract: the tests are those of the definition. Assumes nothing.
 use Rattle.std.proofs.Common.{◌≡◌, false, sym, ◌∙◌, arith, rules, le-leb}
 use borrow.Author.Tests.{lt-leb}

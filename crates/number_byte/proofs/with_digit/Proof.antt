@@ -1,4 +1,3 @@
--- turned
 -- `number_byte::with_digit` meets its contract. Assumes nothing.
 use Rattle.std.proofs.Common.{rules, le-leb}
 use borrow.Author.Tests.{lt-leb}

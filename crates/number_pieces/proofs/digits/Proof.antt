@@ -1,4 +1,3 @@
--- turned
 -- `number_pieces::digits` meets its contract: going on from each place is going on from the first. Assumes nothing.
 use mathlib.Core.Path.{◌≡◌, refl, sym, ◌∙◌}
 use mathlib.Core.Bool.{true}

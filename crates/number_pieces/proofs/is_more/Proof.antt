@@ -1,4 +1,3 @@
--- turned
 -- `number_pieces::is_more` meets its contract. Assumes nothing.
 use mathlib.Core.Path.{sym, ◌∙◌}
 use borrow.Author.Rules.{rules}

@@ -1,4 +1,3 @@
--- turned
 -- `number_pieces::is_sound` meets its contract. Assumes nothing.
 use mathlib.Core.Path.{◌≡◌}
 use Prim.Native.Nat.{ℕ}

@@ -1,4 +1,3 @@
--- turned
 -- `query::eval_at` meets its contract. Its three ways out are a no to one of the questions before the lookup, an s that the lookup refuses, and a yes to all.
 -- Assumes nothing.
 use mathlib.Core.Path.{◌≡◌, sym, ap, ◌∙◌, subst}

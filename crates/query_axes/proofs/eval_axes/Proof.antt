@@ -1,4 +1,3 @@
--- turned
 -- The loop's invariant: each buffer that the level writes holds its derivative of the axes below `axis`. Assumes nothing.
 use mathlib.Core.Path.{◌≡◌, ap, ◌∙◌}
 use mathlib.Core.Bool.{Bool, true}

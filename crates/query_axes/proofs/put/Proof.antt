@@ -1,4 +1,3 @@
--- turned
 -- The cell is set exactly where the level writes derivative k. Assumes nothing.
 use Prim.Native.Nat.{◌<◌}
 use lib.ListN.{length}

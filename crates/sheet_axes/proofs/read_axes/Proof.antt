@@ -1,4 +1,3 @@
--- turned
 -- `sheet_axes::read_axes` meets its contract: one axis after the other. Assumes nothing.
 use mathlib.Core.Path.{◌≡◌, sym, ◌∙◌}
 use Prim.Native.Nat.{◌-◌}

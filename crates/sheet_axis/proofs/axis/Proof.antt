@@ -1,4 +1,3 @@
--- turned
 -- `sheet_axis::axis` meets its contract: the points, and then the states. Assumes nothing.
 use mathlib.Core.List.{[]}
 use borrow.Author.Rules.{rules}

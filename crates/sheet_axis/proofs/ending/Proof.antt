@@ -1,4 +1,3 @@
--- turned
 -- `sheet_axis::ending` meets its contract: the list, and what closes the axis. Assumes nothing.
 use mathlib.Core.List.{[]}
 use borrow.Author.Rules.{rules}

@@ -1,4 +1,3 @@
--- turned
 -- `sheet_axis::led` meets its contract: the fixed bytes, and then the list. Assumes nothing.
 use borrow.Author.Rules.{rules}
 use native.Mathlib.Omega.{arith}

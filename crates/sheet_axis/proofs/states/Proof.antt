@@ -1,4 +1,3 @@
--- turned
 -- `sheet_axis::states` meets its contract: the start list, and then the end list. Assumes nothing.
 use mathlib.Core.List.{[]}
 use borrow.Author.Rules.{rules}

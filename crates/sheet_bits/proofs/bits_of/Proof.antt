@@ -1,4 +1,3 @@
--- turned
 -- `sheet_bits::bits_of` meets its contract. Assumes nothing.
 use mathlib.Core.Path.{◌≡◌, refl, sym, ◌∙◌}
 use mathlib.Core.Bool.{false, not}

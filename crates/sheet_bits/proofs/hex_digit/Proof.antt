@@ -1,4 +1,3 @@
--- turned
 -- `sheet_bits::hex_digit` meets its contract. Assumes nothing.
 use borrow.Author.Rules.{rules}
 use borrow.Author.Tests.{lt-ltb, le-ltb}

@@ -1,4 +1,3 @@
--- turned
 -- `sheet_bits::put_bytes` meets its contract. The loop's invariant: the first j bytes are written. Assumes nothing.
 use Prim.Native.Nat.{◌+◌, ◌-◌, ◌≤◌}
 use native.Mathlib.Nat.{add-zero}

@@ -1,4 +1,3 @@
--- turned
 -- `sheet_bits::put_coefficient` meets its contract. Assumes nothing.
 use mathlib.Core.Path.{ap}
 use mathlib.Core.List.{◌++◌}

@@ -1,4 +1,3 @@
--- turned
 -- `sheet_bits::put_hex` meets its contract. The loop's invariant: the first j digits are written. Assumes nothing.
 use Prim.Native.Nat.{◌+◌, ◌-◌, ◌≤◌}
 use native.Mathlib.Nat.{add-zero}

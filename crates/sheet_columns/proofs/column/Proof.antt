@@ -1,4 +1,3 @@
--- turned
 -- `sheet_columns::column` meets its contract. The loop's invariant: out has the column's cells below a, and its own from a on. Assumes nothing.
 use Prim.Native.Nat.{◌+◌, ◌*◌, ◌-◌, ◌<◌}
 use native.Mathlib.Omega.{arith}

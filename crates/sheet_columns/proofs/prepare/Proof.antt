@@ -1,4 +1,3 @@
--- turned
 -- `sheet_columns::prepare` meets its contract: there is room for 8 axes of 257 points, and of 3 numbers of a state. Assumes nothing.
 use native.Mathlib.Nat.{mul-le-mul}
 use native.Mathlib.Omega.{arith}

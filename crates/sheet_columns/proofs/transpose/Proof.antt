@@ -1,4 +1,3 @@
--- turned
 -- `sheet_columns::transpose` meets its contract. The loop's invariant: out has the first k columns, and its own cells from there on.
 -- A turn lends the part for column k. Assumes nothing.
 use mathlib.Core.Path.{◌≡◌}

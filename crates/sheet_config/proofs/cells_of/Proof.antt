@@ -1,4 +1,3 @@
--- turned
 -- `sheet_config::cells_of` meets its contract: 8 axes by 256 segments by 2^40 + 1 coefficients fit. Assumes nothing.
 use mathlib.Core.Path.{◌≡◌, ap, ◌∙◌}
 use Prim.Native.Nat.{ℕ, ◌+◌, ◌*◌, ◌^◌, ◌≤◌}

@@ -1,4 +1,3 @@
--- turned
 -- `sheet_config::config_of` meets its contract. Assumes nothing.
 use mathlib.Core.Path.{◌≡◌, ap, ◌∙◌}
 use Prim.Native.Nat.{ℕ}

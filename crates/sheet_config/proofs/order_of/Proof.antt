@@ -1,4 +1,3 @@
--- turned
 -- `sheet_config::order_of` meets its contract: by the number's sign. Assumes nothing.
 use mathlib.Core.Path.{◌≡◌, ap, ◌∙◌}
 use lib.Dec.{T, lit≤}

@@ -1,4 +1,3 @@
--- turned
 -- `sheet_counts::count` meets its contract. Assumes nothing.
 use Rattle.sheet_counts.proofs.Readings.{count_says}
 use borrow.Author.Rules.{rules}

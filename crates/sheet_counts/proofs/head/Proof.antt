@@ -1,4 +1,3 @@
--- turned
 -- `sheet_counts::head` meets its contract. Assumes nothing.
 use Prim.{tt}
 use mathlib.Core.Path.{sym, ap, ◌∙◌}

@@ -1,4 +1,3 @@
--- turned
 -- `sheet_counts::limited` meets its contract. Assumes nothing.
 use borrow.Author.Rules.{rules}
 use Rattle.sheet_counts.proofs.limited.Statement.{statement}

@@ -1,4 +1,3 @@
--- turned
 -- `sheet_counts::spaced` meets its contract. Assumes nothing.
 use Prim.{tt}
 use mathlib.Core.Path.{sym, ap, ◌∙◌}

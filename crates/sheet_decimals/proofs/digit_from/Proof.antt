@@ -1,4 +1,3 @@
--- turned
 -- `sheet_decimals::digit_from` meets its contract. Assumes nothing.
 use mathlib.Core.Path.{◌≡◌}
 use Prim.Native.Nat.{ℕ}

@@ -1,4 +1,3 @@
--- turned
 -- `sheet_decimals::digits` meets its contract: reading on at each place is reading from the start. Assumes nothing.
 use mathlib.Core.Path.{◌≡◌, refl, sym, ◌∙◌}
 use mathlib.Core.List.{List}

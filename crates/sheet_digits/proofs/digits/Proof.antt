@@ -1,4 +1,3 @@
--- turned
 -- `sheet_digits::digits` meets its contract. The loop's invariant: the digits that are counted and those of what is left are all. Assumes nothing.
 use mathlib.Core.Path.{◌≡◌}
 use Prim.Native.Nat.{◌+◌, ◌≤◌}

@@ -1,4 +1,3 @@
--- turned
 -- `sheet_digits::put_decimal` meets its contract. The loop's invariant: with the digits of `rest` before `place`, and the one there, the buffer is as it
 -- should be. Assumes nothing.
 use mathlib.Core.Path.{◌≡◌, refl, ap, ◌∙◌}

@@ -1,4 +1,3 @@
--- turned
 -- `sheet_digits::put_number` meets its contract. Assumes nothing.
 use mathlib.Core.Path.{◌≡◌}
 use mathlib.Core.List.{◌++◌}

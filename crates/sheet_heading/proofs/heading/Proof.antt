@@ -1,4 +1,3 @@
--- turned
 -- `sheet_heading::heading` meets its contract: three numbers, one after the other. Assumes nothing.
 use mathlib.Core.List.{[]}
 use borrow.Author.Rules.{rules}

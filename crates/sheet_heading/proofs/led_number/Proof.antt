@@ -1,4 +1,3 @@
--- turned
 -- `sheet_heading::led_number` meets its contract: the fixed bytes, and then the number. Assumes nothing.
 use borrow.Author.Rules.{rules}
 use Rattle.sheet_words.proofs.Steps.{passed_inside}

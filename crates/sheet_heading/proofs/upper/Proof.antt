@@ -1,4 +1,3 @@
--- turned
 -- `sheet_heading::upper` meets its contract: the number, and the end of the line. Assumes nothing.
 use mathlib.Core.List.{[]}
 use borrow.Author.Rules.{rules}

@@ -1,4 +1,3 @@
--- turned
 -- `sheet_items::following` meets its contract: by the byte that follows. Assumes nothing.
 use borrow.Author.Rules.{rules}
 use Rattle.sheet_items.proofs.Follow.{follow_stop, follow_end, follow_close, follow_item, follow_other}

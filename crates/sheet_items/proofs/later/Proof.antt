@@ -1,4 +1,3 @@
--- turned
 -- `sheet_items::later` meets its contract. Assumes nothing.
 use borrow.Author.Tests.{lt-ltb, le-ltb}
 use Rattle.sheet_items.proofs.later.Statement.{statement}

@@ -1,4 +1,3 @@
--- turned
 -- `sheet_items::number_item` meets its contract. Assumes nothing.
 use borrow.Author.Rules.{rules}
 use Rattle.sheet_items.proofs.Follow.{number_fault, number_filled}

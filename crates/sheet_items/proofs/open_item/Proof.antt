@@ -1,4 +1,3 @@
--- turned
 -- `sheet_items::open_item` meets its contract: by the byte at its place, the depth and the heading. Assumes nothing.
 use borrow.Author.Rules.{rules}
 use native.Mathlib.Omega.{arith}

@@ -1,4 +1,3 @@
--- turned
 -- `sheet_items::repeated` meets its contract: by what its inner list is. Assumes nothing.
 use borrow.Author.Rules.{rules}
 use Rattle.sheet_items.proofs.Forms.{bounds, repeated_list, repeated_fault}

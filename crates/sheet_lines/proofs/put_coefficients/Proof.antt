@@ -1,4 +1,3 @@
--- turned
 -- `sheet_lines::put_coefficients` meets its contract. The loop's invariant: the first k coefficients are written. Assumes nothing.
 use mathlib.Core.Path.{ap}
 use mathlib.Core.List.{List}

@@ -1,4 +1,3 @@
--- turned
 -- `sheet_lines::put_table_line` meets its contract: its parts, one after the other, are the line. Assumes nothing.
 use native.Mathlib.Omega.{arith}
 use borrow.Author.Rules.{rules}

@@ -1,4 +1,3 @@
--- turned
 -- `sheet_numbers::negated` meets its contract: up to 2^40, less than 0 fits as well. Assumes nothing.
 use mathlib.Core.Path.{◌≡◌}
 use Prim.Native.Nat.{ℕ, zero, suc, ◌≤◌, ◌^◌}

@@ -1,4 +1,3 @@
--- turned
 -- `sheet_numbers::number` meets its contract, by its first byte. Assumes nothing.
 use mathlib.Core.Path.{sym}
 use native.Mathlib.Omega.{arith}

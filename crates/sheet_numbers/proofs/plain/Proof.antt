@@ -1,4 +1,3 @@
--- turned
 -- `sheet_numbers::plain` meets its contract: a worth up to 2^40 fits. Assumes nothing.
 use mathlib.Core.Path.{◌≡◌, subst}
 use Prim.Native.Nat.{ℕ, ◌≤◌, ◌^◌}

@@ -1,4 +1,3 @@
--- turned
 -- `sheet_numbers::positive` meets its contract: the digits after the first are read on from its worth. Assumes nothing.
 use mathlib.Core.Path.{refl, sym, ◌∙◌}
 use native.Mathlib.Omega.{arith}

@@ -1,4 +1,3 @@
--- turned
 -- `sheet_output::put_axis` meets its contract. The loop's invariant: the lines of the first i segments are written. Assumes nothing.
 use mathlib.Core.Path.{◌≡◌, ap}
 use mathlib.Core.List.{List}

@@ -1,4 +1,3 @@
--- turned
 -- `sheet_output::write_table` meets its contract. The loop's invariant: behind the first line, those of the first axes are written. Assumes nothing.
 use mathlib.Core.Path.{refl}
 use Prim.Native.Nat.{◌+◌, ◌-◌, ◌≤◌}

@@ -1,4 +1,3 @@
--- turned
 -- `sheet_puts::push` meets its contract. Assumes nothing.
 use mathlib.Core.Path.{ap, ◌∙◌}
 use native.Mathlib.Omega.{arith}

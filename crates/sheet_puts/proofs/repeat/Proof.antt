@@ -1,4 +1,3 @@
--- turned
 -- `sheet_puts::repeat` meets its contract: the block is laid on place by place. Assumes nothing.
 use mathlib.Core.Path.{◌≡◌, ◌∙◌}
 use Prim.Native.Nat.{◌≤◌, ◌-◌}

@@ -1,4 +1,3 @@
--- turned
 -- `sheet_reader::answered` meets its contract. Assumes nothing.
 use borrow.Author.Rules.{rules}
 use Rattle.sheet_reader.proofs.answered.Statement.{statement}

@@ -1,4 +1,3 @@
--- turned
 -- `sheet_reader::read_sheet` meets its contract: by the length of the text. Assumes nothing.
 use borrow.Author.Rules.{rules}
 use native.Mathlib.Omega.{arith}

@@ -1,4 +1,3 @@
--- turned
 -- `sheet_reader::read_whole` meets its contract: the heading, and then the axes. Assumes nothing.
 use borrow.Author.Rules.{rules}
 use Rattle.sheet_reader.proofs.Whole.{heading_stops, heading_to, axes_stop, sized_whole, read_whole}

@@ -1,4 +1,3 @@
--- turned
 -- `sheet_sizes::count_of` meets its contract. Assumes nothing.
 use borrow.Author.Tests.{eq-eqb, ne_eqb}
 use Rattle.sheet_sizes.proofs.count_of.Statement.{statement}

@@ -1,4 +1,3 @@
--- turned
 -- `sheet_sizes::fault_of` meets its contract. Assumes nothing.
 use mathlib.Core.Path.{◌≡◌}
 use mathlib.Core.Bool.{false}

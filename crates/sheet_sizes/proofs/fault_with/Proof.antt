@@ -1,4 +1,3 @@
--- turned
 -- `sheet_sizes::fault_with` meets its contract. Assumes nothing.
 use borrow.Author.Rules.{rules}
 use borrow.Author.Tests.{eq-eqb, ne_eqb}

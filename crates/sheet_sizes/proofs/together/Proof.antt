@@ -1,4 +1,3 @@
--- turned
 -- `sheet_sizes::together` meets its contract. Assumes nothing.
 use borrow.Author.Tests.{eq-eqb, ne_eqb}
 use Rattle.sheet_sizes.proofs.together.Statement.{statement}

@@ -1,4 +1,3 @@
--- turned
 -- `sheet_sizes::with_axis` meets its contract: field by field. Assumes nothing.
 use borrow.Author.Rules.{rules}
 use Rattle.sheet_sizes.specs.Sizes.{with_axis}

@@ -1,4 +1,3 @@
--- turned
 -- `sheet_words::word` meets its contract: passing on at each place is passing from the start. Assumes nothing.
 use mathlib.Core.Path.{◌≡◌, refl, sym, ◌∙◌}
 use Prim.Native.Nat.{◌≤◌, ◌-◌}

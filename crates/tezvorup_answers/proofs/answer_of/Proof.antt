@@ -1,4 +1,3 @@
--- turned
 -- `tezvorup_answers::answer_of` meets its contract: the number, and the record beside it. Assumes nothing.
 use borrow.Author.Rules.{rules}
 use Rattle.tezvorup_answers.proofs.answer_of.Statement.{statement}

@@ -1,4 +1,3 @@
--- turned
 -- `tezvorup_answers::record_of` meets its contract: the record is made field by field. Assumes nothing.
 use borrow.Author.Rules.{rules}
 use Rattle.tezvorup_answers.proofs.record_of.Statement.{statement}

@@ -1,4 +1,3 @@
--- turned
 -- `tezvorup_answers::sheet_of` meets its contract: number and place, and the record beside them. Assumes nothing.
 use borrow.Author.Rules.{rules}
 use Rattle.tezvorup_answers.proofs.sheet_of.Statement.{statement}

@@ -1,4 +1,3 @@
--- turned
 -- `tezvorup_build::spline_build` meets its contract: it is the build with the configuration that was handed over. Assumes nothing.
 use borrow.Author.Rules.{rules}
 use Rattle.tezvorup_build.proofs.spline_build.Statement.{statement}

@@ -1,4 +1,3 @@
--- turned
 -- `tezvorup_given::config_of` meets its contract: the record is made field by field. Assumes nothing.
 use borrow.Author.Rules.{rules}
 use Rattle.tezvorup_given.proofs.config_of.Statement.{statement}

@@ -1,4 +1,3 @@
--- turned
 -- `tezvorup_given::mode_of` meets its contract: each way out is one of the definition's. Assumes nothing.
 use borrow.Author.Tests.{ne_eqb}
 use Rattle.tezvorup_records.specs.Meaning.{mode_of}

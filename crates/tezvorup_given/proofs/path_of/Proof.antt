@@ -1,4 +1,3 @@
--- turned
 -- `tezvorup_given::path_of` meets its contract: the record is made field by field. Assumes nothing.
 use borrow.Author.Rules.{rules}
 use Rattle.tezvorup_given.proofs.path_of.Statement.{statement}

@@ -1,4 +1,3 @@
--- turned
 -- `tezvorup_master::spline_check_master` meets its contract: it is the check, with its answer as a record. Assumes nothing.
 use borrow.Author.Rules.{rules}
 use Rattle.tezvorup_master.proofs.spline_check_master.Statement.{statement}

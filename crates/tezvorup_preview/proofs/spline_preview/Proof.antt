@@ -1,4 +1,3 @@
--- turned
 -- `tezvorup_preview::spline_preview` meets its contract: it is the preview with the configuration that was handed over. Assumes nothing.
 use borrow.Author.Rules.{rules}
 use Rattle.tezvorup_preview.proofs.spline_preview.Statement.{statement}

@@ -1,4 +1,3 @@
--- turned
 -- `tezvorup_query::spline_query` meets its contract: it is the query of the path that was handed over. Assumes nothing.
 use borrow.Author.Rules.{rules}
 use Rattle.tezvorup_query.proofs.spline_query.Statement.{statement}

@@ -1,4 +1,3 @@
--- turned
 -- The loop's invariant: all the numbers are within ±2^40 exactly where those from i on are. Assumes nothing.
 use mathlib.Core.Path.{◌≡◌, refl, ◌∙◌, sym, ap}
 use Prim.Native.Nat.{◌-◌, ◌≤◌}

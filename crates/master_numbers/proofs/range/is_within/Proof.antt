@@ -1,4 +1,3 @@
--- turned
 -- Below −2^40 nothing is within, and from there on the upper limit decides. Assumes nothing.
 use mathlib.Core.Path.{◌≡◌, refl, sym, ap, ◌∙◌, subst}
 use mathlib.Core.Bool.{true, false}

@@ -1,4 +1,3 @@
--- turned
 -- `master_numbers::sums::add_up` meets its contract. The loop's invariant, `Adding`, and its turn stand in proofs/Horner.antt. Assumes nothing.
 use mathlib.Core.Path.{◌≡◌, ap₂, ◌∙◌}
 use Prim.Native.Nat.{◌+◌, ◌-◌, ◌<◌}

@@ -1,4 +1,3 @@
--- turned
 -- `master_numbers::sums::coefficients` meets its contract: the loop fills the array from the left. Assumes nothing.
 use mathlib.Core.Path.{◌≡◌, sym}
 use Prim.Native.Nat.{◌-◌, ◌≤◌}

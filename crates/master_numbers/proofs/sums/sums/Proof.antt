@@ -1,4 +1,3 @@
--- turned
 -- `master_numbers::sums::sums` meets its contract. The loop's invariant, `Shifted`, and its turn stand in proofs/Horner.antt. Assumes nothing.
 use mathlib.Core.Path.{sym}
 use Prim.Native.Nat.{◌-◌}
