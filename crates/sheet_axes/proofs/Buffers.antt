@@ -32,7 +32,9 @@ one_more : (lists : List (List ℤ)) (xs : List ℤ) (a : ℕ) → a < length li
 one_more lists xs a h = get_or-append lists (xs ∷ []) [] a h
 
 the_last : (lists : List (List ℤ)) (xs : List ℤ) → get_or (lists ++ (xs ∷ [])) (length lists) [] ≡ xs
-the_last lists xs = let e : length lists ≡ length lists + 0 = omega arith in ap (λ n. get_or (lists ++ (xs ∷ [])) n []) e ∙ get_or-append-add lists (xs ∷ []) 0 []
+the_last lists xs =
+    let e : length lists ≡ length lists + 0 = omega arith in
+    ap (λ n. get_or (lists ++ (xs ∷ [])) n []) e ∙ get_or-append-add lists (xs ∷ []) 0 []
 
 -- a list that was put at the start of its part
 put_at : (out xs : List ℤ) (i : ℕ) → i < length xs → length xs ≤ length out → get_or (put out 0 xs) i (pos 0) ≡ get_or xs i (pos 0)

@@ -64,7 +64,8 @@ over_first : (room place : ℕ) (items : Items) (rest : List Refusal)
 unfolding over size over_at first_place
 over_first room place (one i) rest = go (ltb room (size_of i)) refl
   where
-    go : (b : Bool) → ltb room (size_of i) ≡ b → first_place (over room place (one i) ++ rest) ≡ cond (ltb room (size_of i)) (place_of 2 place) (first_place rest)
+    go : (b : Bool) → ltb room (size_of i) ≡ b
+        → first_place (over room place (one i) ++ rest) ≡ cond (ltb room (size_of i)) (place_of 2 place) (first_place rest)
     go true e = rw (e, over)
     go false e = rw (e, over)
 over_first room place (more i items) rest =

@@ -24,7 +24,8 @@ far text w from next e h k =
 abbrev pub word_at : List ℕ → ℕ → List ℕ → reading.Read (Unit {0})
 word_at w n t = reading.word w t
 
-module _ (text w : List ℕ) (from : ℕ) (r : Passed) (says : passed_of text r ≡ reading.word w (drop from text)) (inside : PassedInside from (length text) r) where
+module _
+    (text w : List ℕ) (from : ℕ) (r : Passed) (says : passed_of text r ≡ reading.word w (drop from text)) (inside : PassedInside from (length text) r) where
   pub word_reads : (next : ℕ) → r ≡ passed.To next → Reads (word_at w) text from tt next
   word_reads next e = record { says = λ n l. sym says ∙ ap (passed_of text) e; inside = (passed_inside r next e _ _ inside).1 }
 

@@ -9,7 +9,47 @@ use native.Mathlib.Omega.{arith}
 use lib.IntN.{ℤ, pos, negsuc, nat_abs}
 use lib.ListN.{length, length-append}
 use borrow.Author.Tests.{leb-false}
-use Rattle.rules.specs.Sheets.{bytes, Item, Items, whole, again, one, more, Axis, Axes, only, next, Range, range, Heading, heading, Sheet, sheet, decimal, natural, signed, spell_item, spell_items, spell_states, spell_axis, spell_axes, spell_range, spell_heading, spell_sheet, ValidItem, ValidItems, ValidStates, ValidAxis, ValidAxes, ValidHeading, ValidSheet, unlimited, within, below4, Free}
+use Rattle.rules.specs.Sheets.{
+  bytes,
+  Item,
+  Items,
+  whole,
+  again,
+  one,
+  more,
+  Axis,
+  Axes,
+  only,
+  next,
+  Range,
+  range,
+  Heading,
+  heading,
+  Sheet,
+  sheet,
+  decimal,
+  natural,
+  signed,
+  spell_item,
+  spell_items,
+  spell_states,
+  spell_axis,
+  spell_axes,
+  spell_range,
+  spell_heading,
+  spell_sheet,
+  ValidItem,
+  ValidItems,
+  ValidStates,
+  ValidAxis,
+  ValidAxes,
+  ValidHeading,
+  ValidSheet,
+  unlimited,
+  within,
+  below4,
+  Free,
+}
 use Rattle.rules.specs.SheetReading.{
   Read,
   got,
@@ -284,7 +324,8 @@ module _ (it : Item) (d p m : ℕ) (z : List ℕ) where
 mutual
   unfolding ValidItem spell_item ItemEnds Stops Finds
 
-  item_finds : (it : Item) (d p m : ℕ) (z : List ℕ) → ValidItem unlimited unlimited it d → ItemEnds it z → length (spell_item it ++ z) < m → FoundItem d p it m z
+  item_finds : (it : Item) (d p m : ℕ) (z : List ℕ) → ValidItem unlimited unlimited it d → ItemEnds it z → length (spell_item it ++ z) < m
+      → FoundItem d p it m z
   item_finds (whole a) d p m z v f l = whole_found a d p m z (number_finds a z m p v f l)
   item_finds (again n its) d p zero z v f l = absurd (omega arith)
   item_finds (again n its) d p (suc m) z v f l =
@@ -321,7 +362,8 @@ list_finds w =
     lists : Finds spell_items (λ its. ValidItems unlimited unlimited its 0) (read_list within below4) Any (λ p its. beyond 0 p its)
     lists its z m p v f l = items_finds its 0 p m z v l
 
-numbers_finds : (w : List ℕ) → Finds (led_number w) (λ z. unlimited (nat_abs z) ≡ true) (lead w (read_number within below4)) Ends (λ p z. large (p + length w) z)
+numbers_finds : (w : List ℕ)
+    → Finds (led_number w) (λ z. unlimited (nat_abs z) ≡ true) (lead w (read_number within below4)) Ends (λ p z. large (p + length w) z)
 numbers_finds w = lead_finds w signed (λ z. unlimited (nat_abs z) ≡ true) (read_number within below4) Ends large number_finds
 
 end_finds : Finds end_spelled (λ its. ValidItems unlimited unlimited its 0) (read_end within below4) Any (λ p e. beyond 0 (p + length (bytes " (end ")) e)

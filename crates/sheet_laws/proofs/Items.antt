@@ -117,7 +117,8 @@ module _ (fits : ℕ → Bool) (opens : ℕ → Bool) (small : (d : ℕ) → d <
   FormOk d (again n its) = ((1 ≤ n) × (n ≤ 64)) × ValidItems fits opens its (suc d)
 
   form_joins : (d : ℕ)
-      → Joins again spell_head Count head_n Any spell_items (λ its. ValidItems fits opens its (suc d)) (items_n fits opens (suc d)) Any form_spelled (FormOk d) Any
+      → Joins again spell_head Count head_n Any spell_items (λ its. ValidItems fits opens its (suc d)) (items_n fits opens (suc d)) Any
+          form_spelled (FormOk d) Any
   unfolding FormOk ValidItem
   form_joins d = record {
     spell = λ n its. refl;

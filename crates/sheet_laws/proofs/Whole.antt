@@ -340,7 +340,8 @@ module _ (fits : ℕ → Bool) (opens : ℕ → Bool) (small : (d : ℕ) → d <
   end_exact = pair_exact end-joins (list_after_lem (bytes " (end ")) (word_exact (bytes ")\n")) (λ c v. (c, tt, refl, v, tt)) (λ a b z f. tt)
 
   pub states-joins :
-      Joins states (led_list (bytes " (start ")) ListOk (list_after (bytes " (start ")) Any end_spelled ListOk (read_end fits opens) Any spell_states StatesOk Any
+      Joins states (led_list (bytes " (start ")) ListOk (list_after (bytes " (start ")) Any end_spelled ListOk (read_end fits opens) Any
+      spell_states StatesOk Any
   unfolding spell_states end_spelled ValidStates
   states-joins = any_joins (λ s e. refl) (λ s e v w. (v, w)) (λ s e z f. tt) nought nought_ok (list_after_lem (bytes " (start ")).all
 

@@ -296,7 +296,8 @@ head_n m t = head t
 abbrev count_space : ℕ → List ℕ → Read ℕ
 count_space = both {B = Unit {0}} (λ n u. n) natural Count count_n Stopped (λ u. 32 ∷ []) always (word_n (32 ∷ [])) Any (λ n. natural n ++ (32 ∷ [])) Count Any
 
-count_space_lem : Joins {B = Unit {0}} (λ n u. n) natural Count count_n Stopped (λ u. 32 ∷ []) always (word_n (32 ∷ [])) Any (λ n. natural n ++ (32 ∷ [])) Count Any
+count_space_lem :
+    Joins {B = Unit {0}} (λ n u. n) natural Count count_n Stopped (λ u. 32 ∷ []) always (word_n (32 ∷ [])) Any (λ n. natural n ++ (32 ∷ [])) Count Any
 unfolding Stops
 count_space_lem = record {
   spell = λ n u. refl;
@@ -323,9 +324,11 @@ count_space_out n t =
 
 -- the fixed bytes before
 abbrev head_both : ℕ → List ℕ → Read ℕ
-head_both = both (λ u n. n) (λ u. (bytes "again ")) always (word_n (bytes "again ")) Any (λ n. natural n ++ (32 ∷ [])) Count count_space Any spell_head Count Any
+head_both =
+    both (λ u n. n) (λ u. (bytes "again ")) always (word_n (bytes "again ")) Any (λ n. natural n ++ (32 ∷ [])) Count count_space Any spell_head Count Any
 
-head_joins : Joins (λ u n. n) (λ u. (bytes "again ")) always (word_n (bytes "again ")) Any (λ n. natural n ++ (32 ∷ [])) Count count_space Any spell_head Count Any
+head_joins :
+    Joins (λ u n. n) (λ u. (bytes "again ")) always (word_n (bytes "again ")) Any (λ n. natural n ++ (32 ∷ [])) Count count_space Any spell_head Count Any
 head_joins = record {
   spell = λ u n. refl;
   valid = λ u n v w. w;

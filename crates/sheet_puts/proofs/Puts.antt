@@ -244,7 +244,8 @@ module _ (out : List ℤ) (at : ℕ) (xs : List ℤ) (h : at ≤ length out) (n 
       ap (λ l. take (end_of out at xs - at) (drop at l)) (put_is out at xs h
       ∙ append_assoc (take at out) (take (end_of out at xs - at) xs) (drop (end_of out at xs) out))
       ∙ ap (take (end_of out at xs - at)) (drop_at (take at out) (take (end_of out at xs - at) xs ++ drop (end_of out at xs) out) at (length-take-le at out h))
-      ∙ take_at (take (end_of out at xs - at) xs) (drop (end_of out at xs) out) (end_of out at xs - at) (length-take-le (end_of out at xs - at) xs (omega arith))
+      ∙ take_at (take (end_of out at xs - at) xs) (drop (end_of out at xs) out) (end_of out at xs - at)
+          (length-take-le (end_of out at xs - at) xs (omega arith))
 
   part : List ℤ
   part = take (end_of out at xs - at) xs

@@ -21,6 +21,7 @@ module _ (w : List ℕ) (i : ℕ) (s : List ℕ) (j : ℕ) where
   unfolding reading.word
   word_other h k e = rw (drop_here w i h, drop_here s j k, ne_eqb _ _ e, reading.word)
 
-  pub word_more : i < length w → j < length s → get_or s j 0 ≡ get_or w i 0 → reading.word (drop i w) (drop j s) ≡ reading.word (drop (i + 1) w) (drop (j + 1) s)
+  pub word_more : i < length w → j < length s → get_or s j 0 ≡ get_or w i 0
+      → reading.word (drop i w) (drop j s) ≡ reading.word (drop (i + 1) w) (drop (j + 1) s)
   unfolding reading.word
   word_more h k e = rw (drop_here w i h, drop_here s j k, eq-eqb _ _ e, reading.word)

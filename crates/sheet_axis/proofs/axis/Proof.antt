@@ -13,10 +13,14 @@ axis_spec =
     (tie.spec
     (λ c κs. search rules)
     (λ c. search rules)
-    (λ c κs. let a = c.args in let l = list_to _ (bytes "(axis (points ") [] a.text.now a.from a.points.now _ _ c.led-list.ensures _ _ _ c.in-To.is in
+    (λ c κs.
+    let a = c.args in
+    let l = list_to _ (bytes "(axis (points ") [] a.text.now a.from a.points.now _ _ c.led-list.ensures _ _ _ c.in-To.is in
     (l.reads.inside, c.requires.2, c.requires.3))
     (λ c. search rules)
-    (λ c. let a = c.args in let l = list_to _ (bytes "(axis (points ") [] a.text.now a.from a.points.now _ _ c.led-list.ensures _ _ _ c.in-To.is in
+    (λ c.
+    let a = c.args in
+    let l = list_to _ (bytes "(axis (points ") [] a.text.now a.from a.points.now _ _ c.led-list.ensures _ _ _ c.in-To.is in
     omega (arith, l.ends))
     (λ c. search rules)
     (λ c. search rules)

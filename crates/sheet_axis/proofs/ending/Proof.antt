@@ -13,7 +13,10 @@ ending_spec =
     (tie.spec
     (λ c κs. search rules)
     (λ c. search rules)
-    (λ c κs. let a = c.args in let l = list_to _ (bytes " (end ") [] a.text.now a.from a.out.now _ _ c.led-list.ensures _ _ _ c.in-To.is in l.reads.inside)
+    (λ c κs.
+    let a = c.args in
+    let l = list_to _ (bytes " (end ") [] a.text.now a.from a.out.now _ _ c.led-list.ensures _ _ _ c.in-To.is in
+    l.reads.inside)
     (λ c. search rules)
     (λ c. search rules)
     (λ c. search rules)

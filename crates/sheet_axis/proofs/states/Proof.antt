@@ -12,7 +12,10 @@ states_spec =
     (tie.spec
     (λ c κs. search rules)
     (λ c. search rules)
-    (λ c κs. let a = c.args in let l = list_to _ (bytes " (start ") [] a.text.now a.from a.start.now _ _ c.led-first.ensures _ _ _ c.in-To.is in (l.reads.inside, c.requires.2))
+    (λ c κs.
+    let a = c.args in
+    let l = list_to _ (bytes " (start ") [] a.text.now a.from a.start.now _ _ c.led-first.ensures _ _ _ c.in-To.is in
+    (l.reads.inside, c.requires.2))
     (λ c. search rules)
     (λ c. search rules)
     (λ c. search rules)

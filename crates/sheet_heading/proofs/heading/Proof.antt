@@ -13,9 +13,15 @@ heading_spec =
     (tie.spec
     (λ c κs. search rules)
     (λ c. search rules)
-    (λ c κs. let text = c.args.text.now in let z = number_to _ (bytes "(order ") [] text 0 _ c.led_number-first.ensures _ _ c.in-Is.is in z.reads.inside)
+    (λ c κs.
+    let text = c.args.text.now in
+    let z = number_to _ (bytes "(order ") [] text 0 _ c.led_number-first.ensures _ _ c.in-Is.is in
+    z.reads.inside)
     (λ c. search rules)
-    (λ c κs. let text = c.args.text.now in let z = number_to _ (bytes ")\n(range ") [] text _ _ c.led_number-second.ensures _ _ c.in-Is-second.is in z.reads.inside)
+    (λ c κs.
+    let text = c.args.text.now in
+    let z = number_to _ (bytes ")\n(range ") [] text _ _ c.led_number-second.ensures _ _ c.in-Is-second.is in
+    z.reads.inside)
     (λ c. search rules)
     (λ c. search rules)
     (λ c. search rules)

@@ -13,7 +13,10 @@ upper_spec =
     (tie.spec
     (λ c κs. search rules)
     (λ c. search rules)
-    (λ c κs. let a = c.args in let z = number_to _ (bytes " ") [] a.text.now a.from _ c.led_number-z.ensures _ _ c.in-Is.is in z.reads.inside)
+    (λ c κs.
+    let a = c.args in
+    let z = number_to _ (bytes " ") [] a.text.now a.from _ c.led_number-z.ensures _ _ c.in-Is.is in
+    z.reads.inside)
     (λ c. search rules)
     (λ c. search rules)
     (λ c. search rules)

@@ -11,7 +11,9 @@ read_whole_spec =
     (λ c κs. search rules)
     (λ c. search rules)
     (λ c. search rules)
-    (λ c κs. let text = c.args.text.now in let f = heading_to text _ c.heading-first.ensures _ _ _ _ c.in-Is.is in
+    (λ c κs.
+    let text = c.args.text.now in
+    let f = heading_to text _ c.heading-first.ensures _ _ _ _ c.in-Is.is in
     (f.reads.inside, c.requires.0, c.requires.1, c.requires.2))
     (λ c. search rules)
     (λ c. search rules)
@@ -20,17 +22,20 @@ read_whole_spec =
     (λ c. search rules)
     (λ c.
     let text = c.args.text.now in
-    sized_whole text _ _ _ _ (heading_to text _ c.heading-first.ensures _ _ _ _ c.in-Is.is) _ _ _ _ c.read_axes-rest.ensures _ _ c.in-Is-rest.is c.if-sizes-ne0.true)
+    sized_whole text _ _ _ _ (heading_to text _ c.heading-first.ensures _ _ _ _ c.in-Is.is) _ _ _ _
+    c.read_axes-rest.ensures _ _ c.in-Is-rest.is c.if-sizes-ne0.true)
     (λ c. heading_stops c.args.text.now _ c.heading-first.ensures _ _ c.in-Stop.is _ _ _)
     (λ c. search rules)
     (λ c. search rules)
     (λ c. search rules)
     (λ c.
     let text = c.args.text.now in
-    axes_stop text _ _ _ _ (heading_to text _ c.heading-first.ensures _ _ _ _ c.in-Is.is) _ _ _ _ c.read_axes-rest.ensures _ _ c.in-Stop-rest.is)
+    axes_stop text _ _ _ _ (heading_to text _ c.heading-first.ensures _ _ _ _ c.in-Is.is) _ _ _ _
+    c.read_axes-rest.ensures _ _ c.in-Stop-rest.is)
     (λ c. search rules)
     (λ c. search rules)
     (λ c. search rules)
     (λ c.
     let text = c.args.text.now in
-    read_whole text _ _ _ _ (heading_to text _ c.heading-first.ensures _ _ _ _ c.in-Is.is) _ _ _ _ c.read_axes-rest.ensures _ _ c.in-Is-rest.is c.if-sizes-ne0.false))
+    read_whole text _ _ _ _ (heading_to text _ c.heading-first.ensures _ _ _ _ c.in-Is.is) _ _ _ _
+    c.read_axes-rest.ensures _ _ c.in-Is-rest.is c.if-sizes-ne0.false))

@@ -6,7 +6,7 @@ use Rattle.sheet_sizes.proofs.with_axis.Tie as tie
 
 returns : tie.Need-returns
 unfolding with_axis
-returns c = rw (c.fault_with-fault.ensures, c.before.before.before.count_of-points.ensures, c.before.before.together-start.ensures, c.before.together-end.ensures)
+returns c = rw (c.fault_with-fault.ensures, c.count_of-points.ensures, c.together-start.ensures, c.together-end.ensures)
 
 pub with_axis_spec : {M : Type 1} → statement M
 with_axis_spec =
