@@ -1,4 +1,3 @@
--- turned
 -- `tezvorup_sheet::spline_build_sheet` meets its contract: it is the build from the sheet, with its answer as a record. Assumes nothing.
 use borrow.Author.Rules.{rules}
 use Rattle.tezvorup_sheet.proofs.spline_build_sheet.Statement.{statement}

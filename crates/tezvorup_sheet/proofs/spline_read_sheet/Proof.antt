@@ -1,4 +1,3 @@
--- turned
 -- `tezvorup_sheet::spline_read_sheet` meets its contract: it is the reading, with its answer as a record. Assumes nothing.
 use borrow.Author.Rules.{rules}
 use Rattle.tezvorup_sheet.proofs.spline_read_sheet.Statement.{statement}
