@@ -118,7 +118,7 @@ module _ (fits : ℕ → Bool) (opens : ℕ → Bool) (small : (d : ℕ) → d <
 
   form_joins : (d : ℕ)
       → Joins again spell_head Count head_n Any spell_items (λ its. ValidItems fits opens its (suc d)) (items_n fits opens (suc d)) Any
-          form_spelled (FormOk d) Any
+      form_spelled (FormOk d) Any
   unfolding FormOk ValidItem
   form_joins d = record {
     spell = λ n its. refl;

@@ -245,7 +245,7 @@ module _ (out : List ℤ) (at : ℕ) (xs : List ℤ) (h : at ≤ length out) (n 
       ∙ append_assoc (take at out) (take (end_of out at xs - at) xs) (drop (end_of out at xs) out))
       ∙ ap (take (end_of out at xs - at)) (drop_at (take at out) (take (end_of out at xs - at) xs ++ drop (end_of out at xs) out) at (length-take-le at out h))
       ∙ take_at (take (end_of out at xs - at) xs) (drop (end_of out at xs) out) (end_of out at xs - at)
-          (length-take-le (end_of out at xs - at) xs (omega arith))
+      (length-take-le (end_of out at xs - at) xs (omega arith))
 
   part : List ℤ
   part = take (end_of out at xs - at) xs

@@ -131,5 +131,8 @@ pub fn ended(seen: Seen, name: Name) -> Seen {
 
 // A program's last line.
 pub fn report<P: Print>(printer: &P, seen: Seen) -> io::Result<()> {
-    println!(printer; "{} calls, {} numbers, {} unlike", seen.calls, seen.numbers, seen.unlike)
+    println!(printer;
+        "{} calls, {} numbers, {} unlike",
+        seen.calls, seen.numbers, seen.unlike
+    )
 }
