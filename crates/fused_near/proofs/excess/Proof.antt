@@ -5,8 +5,5 @@ use borrow.Author.Rules.{rules}
 use Rattle.fused_near.proofs.excess.Statement.{statement}
 use Rattle.fused_near.proofs.excess.Tie as tie
 
-returns-2 : tie.Need-returns-else-above-lt63
-returns-2 c = refl
-
 pub excess_spec : {M : Type 1} → statement M
-excess_spec = tie.close (tie.spec (λ c. search rules) (λ c. omega (arith, c.if-above-lt63.true)) returns-2)
+excess_spec = tie.close (tie.spec (λ c. search rules) (λ c. omega arith) (λ c. refl))

@@ -16,12 +16,12 @@ read_sheet_spec =
     (λ c. search rules)
     (λ c. search rules)
     (λ c.
-    rw c.answered.ensures (short c.args.text.now (omega (arith, c.if-text-le32768.true)) _ _ _ _ c.read_whole-read.ensures))
-    (λ c. omega (arith, length-take 32768 c.args.text.now, c.if-text-le32768.false))
+    rw c.answered.ensures (short c.args.text.now (omega arith) _ _ _ _ c.read_whole-read.ensures))
+    (λ c. omega (arith, length-take 32768 c.args.text.now))
     (λ c κs. search rules)
     (λ c κs. search rules)
     (λ c. search rules)
     (λ c. search rules)
     (λ c. search rules)
     (λ c.
-    rw c.cut.ensures (long c.args.text.now (omega (arith, c.if-text-le32768.false)) _ _ _ _ c.read_whole-read-2.ensures)))
+    rw c.cut.ensures (long c.args.text.now (omega arith) _ _ _ _ c.read_whole-read-2.ensures)))
