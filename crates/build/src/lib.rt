@@ -8,6 +8,9 @@ use build_plan::Plan;
 use build_preview::preview;
 use rules::{BuildAnswer, SplineConfig};
 
+// The number of a build that no question refuses.
+const SERVED: u32 = 0;
+
 // A1, D1, B13, B14, B16: the build. Every call is answered: 0 with the path's record, and the buffer holds the coefficients, by axis, then
 // segment, then power; or the number of the first question that says no, and the buffer is as it was.
 // V8: "a build is a preview and then the filling".
@@ -25,7 +28,7 @@ pub fn from_waypoints_view(
         × (coeffs.new ≡ buffer_after b coeffs.old) }
 {
     let answer = preview(config, points, axes, waypoints, start, end, coeffs.len());
-    if answer.number != 0 {
+    if answer.number != SERVED {
         return answer; // the buffer is as it was
     }
     let start_state = config.start_state;

@@ -7,6 +7,9 @@ ghost use Rattle.build_shape.specs.Shape.{shape_questions};
 
 use questions::size_questions;
 
+// B4: "1 to 8 axes?"
+const MOST_AXES: usize = 8;
+
 // The number of the first no, and 0 where all five say yes, of a waypoint list of so many numbers.
 pub fn shape_questions(order: usize, points: usize, axes: usize, numbers: usize) -> u32
     ensures { result ≡ first_no (shape_questions order points axes numbers) }
@@ -18,7 +21,7 @@ pub fn shape_questions(order: usize, points: usize, axes: usize, numbers: usize)
     if axes < 1 {
         return 300; // B4: too few
     }
-    if 8 < axes {
+    if MOST_AXES < axes {
         return 300; // B4: too many
     }
     if numbers != axes * points {

@@ -24,6 +24,9 @@ fn general(level: u8, a: &[f64], t: f64) -> Derivatives
     b
 }
 
+// R26: the order that has fused steps beside 3.
+const QUINTIC: usize = 5;
+
 // R26, R27: a segment's coefficients at t, by its order. The general loop is called with each level as a constant, so
 // that the compiler makes one for each, and nothing is asked inside.
 pub fn eval_poly(order: usize, level: u8, a: &[f64], t: f64) -> Derivatives
@@ -33,7 +36,7 @@ pub fn eval_poly(order: usize, level: u8, a: &[f64], t: f64) -> Derivatives
     if order == 3 {
         return cubic(level, a, t);
     }
-    if order == 5 {
+    if order == QUINTIC {
         return quintic(level, a, t);
     }
     if level == 0 {

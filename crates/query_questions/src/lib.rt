@@ -9,6 +9,12 @@ ghost use Rattle.rules.specs.Query.{path_questions, buffer_questions};
 use query_levels::{valid_lengths, valid_level};
 use rules::PathRecord;
 
+// Q3: "at most 256"
+const MOST_SEGMENTS: usize = 256;
+
+// Q4: "axes 1 to 8"
+const MOST_AXES: usize = 8;
+
 // G4: the number of the first no, and 0 where all but the last question say yes.
 pub fn query_questions(
     path: PathRecord,
@@ -34,13 +40,13 @@ pub fn query_questions(
     if segments < 1 {
         return 304; // Q2
     }
-    if 256 < segments {
+    if MOST_SEGMENTS < segments {
         return 2; // Q3
     }
     if axes < 1 {
         return 300; // Q4: too few
     }
-    if 8 < axes {
+    if MOST_AXES < axes {
         return 300; // Q4: too many
     }
     if !questions::valid_range(segments, s_min, s_max) {

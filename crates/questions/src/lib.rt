@@ -17,6 +17,9 @@ pub fn is_finite(x: f64) -> bool
     x - x == 0.0
 }
 
+// B1: the order between 3 and 7.
+const QUINTIC: usize = 5;
+
 // B1, Q1, M1: is the order 3, 5 or 7?
 pub fn valid_order(order: usize) -> bool
     ensures { result ≡ valid_order order }
@@ -24,11 +27,17 @@ pub fn valid_order(order: usize) -> bool
     if order == 3 {
         return true;
     }
-    if order == 5 {
+    if order == QUINTIC {
         return true;
     }
     order == 7
 }
+
+// B2: "Are there at least 2 points?"
+const LEAST_POINTS: usize = 2;
+
+// B3: "At most 257?"
+const MOST_POINTS: usize = 257;
 
 // What a build and a check ask first: the number of the first no, and 0 where all say yes.
 pub fn size_questions(order: usize, points: usize) -> u32
@@ -37,10 +46,10 @@ pub fn size_questions(order: usize, points: usize) -> u32
     if !valid_order(order) {
         return 302; // B1, M1
     }
-    if points < 2 {
+    if points < LEAST_POINTS {
         return 304; // B2, M2
     }
-    if 257 < points {
+    if MOST_POINTS < points {
         return 2; // B3, M3
     }
     0 // every question says yes

@@ -55,6 +55,9 @@ pub enum Follows {
     Stop { number: u32, at: usize },
 }
 
+// J7: "at most 4 `again` forms inside one another"
+const MOST_DEEP: usize = 4;
+
 // J4, J7, J21: the bracket alone decides that an item is a form; inside four forms it is refused.
 fn open_item(text: &[u8], from: usize, depth: usize) -> Opening
     requires { from ≤ length text.now }
@@ -69,7 +72,7 @@ fn open_item(text: &[u8], from: usize, depth: usize) -> Opening
     if text[from] != b'(' {
         return Opening::Number;
     }
-    if 4 <= depth {
+    if MOST_DEEP <= depth {
         return Opening::Stop {
             number: 601,
             at: from,

@@ -22,6 +22,12 @@ fn write_answer(answer: SheetAnswer, coeffs: &[f64], out: &mut [u8]) -> usize
     sheet_output::write_table(path, &coeffs[..cells], out)
 }
 
+// J27: the cells of the longest table.
+const MOST_CELLS: usize = 16384;
+
+// J27: the bytes of the longest output.
+const MOST_BYTES: usize = 302240;
+
 // A1, D1, J9, J27: the program's whole output, written into the first bytes of a buffer; the others stay as they were. 16,384 cells
 // and 302,240 bytes suffice for every sheet, and shorter buffers are refused.
 pub fn print_sheet(text: &[u8], coeffs: &mut [f64], out: &mut [u8]) -> SheetPrinted
@@ -29,13 +35,13 @@ pub fn print_sheet(text: &[u8], coeffs: &mut [f64], out: &mut [u8]) -> SheetPrin
         × (coeffs.new ≡ printed_cells text.now coeffs.old (length out.old))
         × (out.new ≡ printed_bytes text.now (length coeffs.old) out.old) }
 {
-    if coeffs.len() < 16384 {
+    if coeffs.len() < MOST_CELLS {
         return SheetPrinted {
             number: 2,
             count: 0,
         };
     }
-    if out.len() < 302240 {
+    if out.len() < MOST_BYTES {
         return SheetPrinted {
             number: 2,
             count: 0,

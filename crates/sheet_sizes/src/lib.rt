@@ -32,11 +32,14 @@ pub struct AxesSizes {
     pub at: usize,
 }
 
+// J23: "the 258th point"
+const TOO_MANY_POINTS: usize = 258;
+
 // J23, J24: 2 for the 258th point or a state's 4th number, 3 for another count than axis one's: the first in the order of the text.
 fn fault_of(z: AxisSizes, count: usize) -> SheetPlace
     ensures { result ≡ fault_of z count }
 {
-    if 258 <= z.points {
+    if TOO_MANY_POINTS <= z.points {
         return SheetPlace {
             number: 2,
             at: z.points_over,

@@ -34,11 +34,14 @@ pub fn state_of(state: RawState) -> BoundaryState
     }
 }
 
+// A1: the number of mode Clamp.
+const CLAMP: u8 = 1;
+
 // What a query does outside the range, by its number.
 pub fn mode_of(mode: u8) -> OutOfRangeMode
     ensures { result ≡ mode_of mode }
 {
-    if mode == 1 {
+    if mode == CLAMP {
         return OutOfRangeMode::Clamp;
     }
     OutOfRangeMode::Error

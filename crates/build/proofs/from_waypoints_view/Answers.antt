@@ -33,30 +33,30 @@ module _ (b : BuildInput) (buffer : List Float) {answer : BuildAnswer} (told : a
       ∙ table_is b buffer yes
       ∙ sym (accepted_buffer b buffer yes)
 
-pub returns-then-answer-ne0 : goal.returns-then-answer-ne0
-returns-then-answer-ne0 c =
+pub returns-then-answer-ne-SERVED : goal.returns-then-answer-ne-SERVED
+returns-then-answer-ne-SERVED c =
     let a = c.args in
     let b = input_of a.config a.points a.axes a.waypoints.now a.start.now a.end.now in
     let told = c.preview-answer.ensures in
-    (told, sym (refused_buffer b a.coeffs.now _ c.if-answer-ne0.true (sym (answer-is b a.coeffs.now told))))
+    (told, sym (refused_buffer b a.coeffs.now _ c.if-answer-ne-SERVED.true (sym (answer-is b a.coeffs.now told))))
 
 pub overflow_sub-m : goal.overflow_sub-m
 overflow_sub-m c =
     let a = c.args in
     let b = input_of a.config a.points a.axes a.waypoints.now a.start.now a.end.now in
-    (order_bounds b a.coeffs.now (said_yes b a.coeffs.now c.preview-answer.ensures c.if-answer-ne0.false)).0
+    (order_bounds b a.coeffs.now (said_yes b a.coeffs.now c.preview-answer.ensures c.if-answer-ne-SERVED.false)).0
 
 pub overflow_sub-n : goal.overflow_sub-n
 overflow_sub-n c =
     let a = c.args in
     let b = input_of a.config a.points a.axes a.waypoints.now a.start.now a.end.now in
-    (points_known b (length a.coeffs.now) (said_yes b a.coeffs.now c.preview-answer.ensures c.if-answer-ne0.false)).0
+    (points_known b (length a.coeffs.now) (said_yes b a.coeffs.now c.preview-answer.ensures c.if-answer-ne-SERVED.false)).0
 
 pub fill-requires : goal.fill-requires
 fill-requires c =
     let a = c.args in
     let b = input_of a.config a.points a.axes a.waypoints.now a.start.now a.end.now in
-    let yes = said_yes b a.coeffs.now c.preview-answer.ensures c.if-answer-ne0.false in
+    let yes = said_yes b a.coeffs.now c.preview-answer.ensures c.if-answer-ne-SERVED.false in
     (planned b a.coeffs.now yes _, cells_are b a.coeffs.now yes)
 
 pub returns : goal.returns
@@ -64,4 +64,4 @@ returns c =
     let a = c.args in
     let b = input_of a.config a.points a.axes a.waypoints.now a.start.now a.end.now in
     let told = c.preview-answer.ensures in
-    (told, c.fill.ensures ∙ filled_is b a.coeffs.now told c.if-answer-ne0.false)
+    (told, c.fill.ensures ∙ filled_is b a.coeffs.now told c.if-answer-ne-SERVED.false)

@@ -36,9 +36,9 @@ past-3 : (c : tie.Else-number-ne0) → Past 3 (start c)
 unfolding shape_questions size_questions
 past-3 c = first_yes (size (start c)) (drop 3 (asked (start c))) tt (all_yes c)
 
-past-4 : (c : tie.Else-axes-gt8) → Past 4 (start c.before.before)
+past-4 : (c : tie.Else-axes-gt-MOST_AXES) → Past 4 (start c.before.before)
 unfolding shape_questions size_questions valid_axes
-past-4 c = past-3 c.before.before ∙ yes_to _ _ (rw (le-leb 1 _ c.before.if-axes-lt1.false, le-leb _ 8 c.if-axes-gt8.false))
+past-4 c = past-3 c.before.before ∙ yes_to _ _ (rw (le-leb 1 _ c.before.if-axes-lt1.false, le-leb _ 8 c.if-axes-gt-MOST_AXES.false))
 
 returns : tie.Need-returns-then-number-ne0
 unfolding shape_questions size_questions
@@ -51,12 +51,12 @@ returns-2 : tie.Need-returns-then-axes-lt1
 unfolding shape_questions size_questions valid_axes
 returns-2 c = sym (past-3 c.before ∙ no_to _ (rw (lt-leb 1 _ c.if-axes-lt1.true)))
 
-returns-3 : tie.Need-returns-then-axes-gt8
+returns-3 : tie.Need-returns-then-axes-gt-MOST_AXES
 unfolding shape_questions size_questions valid_axes
-returns-3 c = sym (past-3 c.before.before ∙ no_to _ (rw (le-leb 1 _ c.before.if-axes-lt1.false, lt-leb _ 8 c.if-axes-gt8.true)))
+returns-3 c = sym (past-3 c.before.before ∙ no_to _ (rw (le-leb 1 _ c.before.if-axes-lt1.false, lt-leb _ 8 c.if-axes-gt-MOST_AXES.true)))
 
 mul-if4 : tie.Need-overflow_mul-axes
-mul-if4 c = let h = mul-le-mul c.if-axes-gt8.false (sized (all_yes c.before.before)).most in record { fits = omega arith }
+mul-if4 c = let h = mul-le-mul c.if-axes-gt-MOST_AXES.false (sized (all_yes c.before.before)).most in record { fits = omega arith }
 
 returns-4 : tie.Need-returns-then-numbers-axes
 unfolding shape_questions size_questions

@@ -15,12 +15,12 @@ is-7 : (order : ℕ) → T (valid_order order) → (order ≡ 3 → ⊥) → (or
 is-7 = by_order (λ order. (order ≡ 3 → ⊥) → (order ≡ 5 → ⊥) → order ≡ 7) (λ h l. absurd (h refl)) (λ h l. absurd (l refl)) (λ h l. refl)
 
 -- past the tests for the orders 3 and 5
-module _ (c : tie.Else-order-eq5) where
+module _ (c : tie.Else-order-eq-QUINTIC) where
   abbrev start : tie.Start
   start = c.before.before.before
 
   seven : start.args.order ≡ 7
-  seven = is-7 _ start.requires.0 c.before.if-order-eq3.false c.if-order-eq5.false
+  seven = is-7 _ start.requires.0 c.before.if-order-eq3.false c.if-order-eq-QUINTIC.false
 
   eight-long : length start.args.a.now ≡ 8
   eight-long = start.requires.2 ∙ ap (λ (order : ℕ). order + 1) seven
@@ -33,9 +33,9 @@ returns : tie.Need-returns-then-order-eq3
 unfolding eval_poly
 returns c = rw c.before.if-order-eq3.true c.cubic.ensures
 
-returns-2 : tie.Need-returns-then-order-eq5
+returns-2 : tie.Need-returns-then-order-eq-QUINTIC
 unfolding eval_poly
-returns-2 c = rw c.before.if-order-eq5.true c.quintic.ensures
+returns-2 c = rw c.before.if-order-eq-QUINTIC.true c.quintic.ensures
 
 general-requires : tie.Need-general-requires
 unfolding valid_level

@@ -28,7 +28,7 @@ abbrev start : Place → tie.Start
 start p = p.before.before.before
 
 -- the way back to it from behind the fourth and the fifth question
-abbrev behind-4 : tie.Else-axes-gt8 → Place
+abbrev behind-4 : tie.Else-axes-gt-MOST_AXES → Place
 behind-4 c = c.before.before.before.before.before
 
 abbrev behind-5 : tie.Else-inv-inv_ds → Place
@@ -59,13 +59,13 @@ past-2 : (c : tie.Else-segments-lt1) → Past 2 c.before.before
 unfolding path_questions buffer_questions
 past-2 c = past-1 c.before ∙ yes_to _ _ (le-leb 1 _ c.if-segments-lt1.false)
 
-past-3 : (c : tie.Else-segments-gt256) → Past 3 c.before.before.before
+past-3 : (c : tie.Else-segments-gt-MOST_SEGMENTS) → Past 3 c.before.before.before
 unfolding path_questions buffer_questions
-past-3 c = past-2 c.before ∙ yes_to _ _ (le-leb _ 256 c.if-segments-gt256.false)
+past-3 c = past-2 c.before ∙ yes_to _ _ (le-leb _ 256 c.if-segments-gt-MOST_SEGMENTS.false)
 
-past-4 : (c : tie.Else-axes-gt8) → Past 4 (behind-4 c)
+past-4 : (c : tie.Else-axes-gt-MOST_AXES) → Past 4 (behind-4 c)
 unfolding path_questions buffer_questions valid_axes
-past-4 c = past-3 c.before.before ∙ yes_to _ _ (rw (le-leb 1 _ c.before.if-axes-lt1.false, le-leb _ 8 c.if-axes-gt8.false))
+past-4 c = past-3 c.before.before ∙ yes_to _ _ (rw (le-leb 1 _ c.before.if-axes-lt1.false, le-leb _ 8 c.if-axes-gt-MOST_AXES.false))
 
 returns-6 : tie.Need-returns-then-not-valid_range
 unfolding path_questions buffer_questions
@@ -91,16 +91,16 @@ unfolding path_questions buffer_questions
 past-8 c = past-7 c.before.before ∙ yes_to _ _ (yes c.before.valid_lengths.ensures c.if-not-valid_lengths.false)
 
 -- behind the first four questions the numbers are small
-order_bound : (c : tie.Else-axes-gt8) → (start (behind-4 c)).args.path.order ≤ 7
+order_bound : (c : tie.Else-axes-gt-MOST_AXES) → (start (behind-4 c)).args.path.order ≤ 7
 order_bound c =
     let d = c.before.before.before.before in
     by_order (λ order. order ≤ 7) (omega arith) (omega arith) (omega arith)
     (start d.before).args.path.order (subst T (sym (yes d.before.valid_order.ensures d.if-not-valid_order.false)) tt)
 
-segments_bound : (c : tie.Else-axes-gt8) → let p = (start (behind-4 c)).args.path in p.axes * p.segments ≤ 8 * 256
-segments_bound c = mul-le-mul c.if-axes-gt8.false c.before.before.if-segments-gt256.false
+segments_bound : (c : tie.Else-axes-gt-MOST_AXES) → let p = (start (behind-4 c)).args.path in p.axes * p.segments ≤ 8 * 256
+segments_bound c = mul-le-mul c.if-axes-gt-MOST_AXES.false c.before.before.if-segments-gt-MOST_SEGMENTS.false
 
-table_bound : (c : tie.Else-axes-gt8) → let p = (start (behind-4 c)).args.path in p.axes * p.segments * (p.order + 1) ≤ 8 * 256 * 8
+table_bound : (c : tie.Else-axes-gt-MOST_AXES) → let p = (start (behind-4 c)).args.path in p.axes * p.segments * (p.order + 1) ≤ 8 * 256 * 8
 table_bound c = let h = order_bound c in mul-le-mul {m₂ = 8} (segments_bound c) (omega arith)
 
 returns : tie.Need-returns-then-not-valid_order
@@ -111,17 +111,17 @@ returns-2 : tie.Need-returns-then-segments-lt1
 unfolding path_questions buffer_questions
 returns-2 c = sym (past-1 c.before ∙ no_to _ (lt-leb 1 _ c.if-segments-lt1.true))
 
-returns-3 : tie.Need-returns-then-segments-gt256
+returns-3 : tie.Need-returns-then-segments-gt-MOST_SEGMENTS
 unfolding path_questions buffer_questions
-returns-3 c = sym (past-2 c.before ∙ no_to _ (lt-leb _ 256 c.if-segments-gt256.true))
+returns-3 c = sym (past-2 c.before ∙ no_to _ (lt-leb _ 256 c.if-segments-gt-MOST_SEGMENTS.true))
 
 returns-4 : tie.Need-returns-then-axes-lt1
 unfolding path_questions buffer_questions valid_axes
 returns-4 c = sym (past-3 c.before ∙ no_to _ (rw (lt-leb 1 _ c.if-axes-lt1.true)))
 
-returns-5 : tie.Need-returns-then-axes-gt8
+returns-5 : tie.Need-returns-then-axes-gt-MOST_AXES
 unfolding path_questions buffer_questions valid_axes
-returns-5 c = sym (past-3 c.before.before ∙ no_to _ (rw (le-leb 1 _ c.before.if-axes-lt1.false, lt-leb _ 8 c.if-axes-gt8.true)))
+returns-5 c = sym (past-3 c.before.before ∙ no_to _ (rw (le-leb 1 _ c.before.if-axes-lt1.false, lt-leb _ 8 c.if-axes-gt-MOST_AXES.true)))
 
 returns-7 : tie.Need-returns-then-inv-inv_ds
 unfolding path_questions buffer_questions

@@ -8,13 +8,13 @@ returns : tie.Need-returns-then-order-eq3
 unfolding valid_order
 returns c = simp c.if-order-eq3.true
 
-returns-2 : tie.Need-returns-then-order-eq5
+returns-2 : tie.Need-returns-then-order-eq-QUINTIC
 unfolding valid_order
-returns-2 c = simp c.if-order-eq5.true
+returns-2 c = simp c.if-order-eq-QUINTIC.true
 
 returns-3 : tie.Need-returns
 unfolding valid_order
-returns-3 c = simp (ne_eqb _ 3 c.before.if-order-eq3.false, ne_eqb _ 5 c.if-order-eq5.false)
+returns-3 c = simp (ne_eqb _ 3 c.before.if-order-eq3.false, ne_eqb _ 5 c.if-order-eq-QUINTIC.false)
 
 pub valid_order_spec : {M : Type 1} → statement M
 valid_order_spec = tie.close (tie.spec returns returns-2 returns-3)

@@ -13,21 +13,21 @@ returns-2 c =
     let a = c.args in
     open_number a.text.now a.from a.depth c.if-text-from.false c.if-text-from-ne40.true
 
-returns-3 : tie.Need-returns-then-depth-ge4
+returns-3 : tie.Need-returns-then-depth-ge-MOST_DEEP
 returns-3 c =
     let a = c.args in
-    open_deep a.text.now a.from a.depth c.if-text-from.false c.if-text-from-ne40.false (omega (arith, c.if-depth-ge4.true))
+    open_deep a.text.now a.from a.depth c.if-text-from.false c.if-text-from-ne40.false (omega (arith, c.if-depth-ge-MOST_DEEP.true))
 
 returns-4 : tie.Need-returns-in-Is
 returns-4 c =
     let a = c.args in
-    open_form a.text.now a.from a.depth c.if-text-from.false c.if-text-from-ne40.false (omega (arith, c.if-depth-ge4.false))
+    open_form a.text.now a.from a.depth c.if-text-from.false c.if-text-from-ne40.false (omega (arith, c.if-depth-ge-MOST_DEEP.false))
     c.head-form.result c.head-form.ensures.0 c.head-form.ensures.1.0 c.head-form.ensures.1.1 _ _ c.in-Is.is
 
 returns-5 : tie.Need-returns-in-Stop
 returns-5 c =
     let a = c.args in
-    open_fault a.text.now a.from a.depth c.if-text-from.false c.if-text-from-ne40.false (omega (arith, c.if-depth-ge4.false))
+    open_fault a.text.now a.from a.depth c.if-text-from.false c.if-text-from-ne40.false (omega (arith, c.if-depth-ge-MOST_DEEP.false))
     c.head-form.result c.head-form.ensures.0 c.head-form.ensures.1.0 _ _ c.in-Stop.is
 
 pub open_item_spec : {M : Type 1} → statement M

@@ -2,19 +2,19 @@
 use Rattle.sheet_print.proofs.Printed.{too_few_cells, too_few_bytes, printed, may_print}
 use Rattle.sheet_print.proofs.print_sheet.Goals as goal
 
-pub returns-then-coeffs-lt16384 : goal.returns-then-coeffs-lt16384
-returns-then-coeffs-lt16384 c = too_few_cells c.args.text.now c.args.coeffs.now c.args.out.now c.if-coeffs-lt16384.true
+pub returns-then-coeffs-lt-MOST_CELLS : goal.returns-then-coeffs-lt-MOST_CELLS
+returns-then-coeffs-lt-MOST_CELLS c = too_few_cells c.args.text.now c.args.coeffs.now c.args.out.now c.if-coeffs-lt-MOST_CELLS.true
 
-pub returns-then-out-lt302240 : goal.returns-then-out-lt302240
-returns-then-out-lt302240 c = too_few_bytes c.args.text.now c.args.coeffs.now c.args.out.now c.if-out-lt302240.true
+pub returns-then-out-lt-MOST_BYTES : goal.returns-then-out-lt-MOST_BYTES
+returns-then-out-lt-MOST_BYTES c = too_few_bytes c.args.text.now c.args.coeffs.now c.args.out.now c.if-out-lt-MOST_BYTES.true
 
 pub write_answer-count-requires : goal.write_answer-count-requires
 write_answer-count-requires c = (
-  c.if-out-lt302240.false,
-  may_print c.args.text.now c.args.coeffs.now c.if-coeffs-lt16384.false _ _ c.build_sheet-answer.ensures c.build_sheet-answer.auto.coeffs,
+  c.if-out-lt-MOST_BYTES.false,
+  may_print c.args.text.now c.args.coeffs.now c.if-coeffs-lt-MOST_CELLS.false _ _ c.build_sheet-answer.ensures c.build_sheet-answer.auto.coeffs,
 )
 
 pub returns : goal.returns
 returns c =
-    printed c.args.text.now c.args.coeffs.now c.args.out.now c.if-coeffs-lt16384.false c.if-out-lt302240.false _ _ c.build_sheet-answer.ensures
+    printed c.args.text.now c.args.coeffs.now c.args.out.now c.if-coeffs-lt-MOST_CELLS.false c.if-out-lt-MOST_BYTES.false _ _ c.build_sheet-answer.ensures
     _ _ c.write_answer-count.ensures

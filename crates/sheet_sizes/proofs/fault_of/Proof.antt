@@ -9,26 +9,26 @@ use Rattle.sheet_sizes.proofs.fault_of.Statement.{statement}
 use Rattle.sheet_sizes.proofs.fault_of.Tie as tie
 
 -- behind the first and the second test
-abbrev first : tie.Else-z-count → tie.Else-z-ge258
+abbrev first : tie.Else-z-count → tie.Else-z-ge-TOO_MANY_POINTS
 first c = c.before.before
 
-abbrev start : tie.Else-z-ge258 → tie.Start
+abbrev start : tie.Else-z-ge-TOO_MANY_POINTS → tie.Start
 start c = c.before.before
 
-returns : tie.Need-returns-then-z-ge258
+returns : tie.Need-returns-then-z-ge-TOO_MANY_POINTS
 unfolding fault_of
-returns c = let z = c.before.before.args.z in rw (le-leb 258 z.points (omega (arith, c.if-z-ge258.true)))
+returns c = let z = c.before.before.args.z in rw (le-leb 258 z.points (omega (arith, c.if-z-ge-TOO_MANY_POINTS.true)))
 
 returns-2 : tie.Need-returns-then-z-count
 unfolding fault_of
 returns-2 c =
     let e = c.before.before in
     let z = (start e).args.z in
-    rw (lt-leb 258 z.points (omega (arith, e.if-z-ge258.false)), ne_eqb _ _ c.if-z-count.true)
+    rw (lt-leb 258 z.points (omega (arith, e.if-z-ge-TOO_MANY_POINTS.false)), ne_eqb _ _ c.if-z-count.true)
 
 -- there are not too many points
 points : (d : tie.Else-z-count) → leb 258 (start (first d)).args.z.points ≡ false
-points d = lt-leb 258 (start (first d)).args.z.points (omega (arith, (first d).if-z-ge258.false))
+points d = lt-leb 258 (start (first d)).args.z.points (omega (arith, (first d).if-z-ge-TOO_MANY_POINTS.false))
 
 returns-3 : tie.Need-returns-then-z-ge4
 unfolding fault_of
