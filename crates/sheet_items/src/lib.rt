@@ -118,6 +118,9 @@ fn repeated(n: usize, out: &mut [i64], at: usize, inner: Listed) -> Filled
     }
 }
 
+// J2: "One space between items"
+const SPACE: u8 = b' ';
+
 // J2: what follows an item: one space and another item, or the bracket that closes the list.
 fn following(text: &[u8], read: Filled) -> Follows
     ensures { Following text.now read result }
@@ -138,7 +141,7 @@ fn following(text: &[u8], read: Filled) -> Follows
                     next: next + 1,
                 };
             }
-            if b == b' ' {
+            if b == SPACE {
                 return Follows::Item {
                     end,
                     place: next + 1,

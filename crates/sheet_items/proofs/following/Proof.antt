@@ -12,15 +12,15 @@ returns-2 c =
     let a = c.args in
     follow_close a.text.now a.read _ _ c.in-To.is c.if-text-next.false c.if-b-eq41.true
 
-returns-3 : tie.Need-returns-then-b-eq32
+returns-3 : tie.Need-returns-then-b-eq-SPACE
 returns-3 c =
     let a = c.args in
-    follow_item a.text.now a.read _ _ c.in-To.is c.if-text-next.false c.if-b-eq41.false c.if-b-eq32.true
+    follow_item a.text.now a.read _ _ c.in-To.is c.if-text-next.false c.if-b-eq41.false c.if-b-eq-SPACE.true
 
-returns-5 : tie.Need-returns-else-b-eq32
+returns-5 : tie.Need-returns-else-b-eq-SPACE
 returns-5 c =
     let a = c.args in
-    follow_other a.text.now a.read _ _ c.in-To.is c.if-text-next.false c.if-b-eq41.false c.if-b-eq32.false
+    follow_other a.text.now a.read _ _ c.in-To.is c.if-text-next.false c.if-b-eq41.false c.if-b-eq-SPACE.false
 
 pub following_spec : {M : Type 1} → statement M
 following_spec =
