@@ -92,7 +92,8 @@ pub fn build_questions(
         return 303; // B6: of the end
     }
     let segments = points - 1;
-    if cells != axes * segments * (order + 1) {
+    let is_unlike = cells != axes * segments * (order + 1);
+    if is_unlike {
         return 2; // B7
     }
     if !questions::valid_range(segments, s_min, s_max) {

@@ -54,7 +54,8 @@ pub fn segment_meets(
     let first = table[i * cells];
     let left = waypoints[i];
     let right = waypoints[i + 1];
-    if first != left {
+    let is_unlike = first != left;
+    if is_unlike {
         return false;
     }
     let sums = sums(m, table, i);

@@ -41,10 +41,12 @@ pub fn master_questions(
         return number;
     }
     let m = (order - 1) / 2;
-    if start.len() != m {
+    let start_unlike = start.len() != m;
+    if start_unlike {
         return 303; // M4: the start state
     }
-    if end.len() != m {
+    let end_unlike = end.len() != m;
+    if end_unlike {
         return 303; // M5: the end state
     }
     // Both are worked out before either is asked: their order is then that of two tests, and no more.

@@ -21,7 +21,8 @@ pub fn valid_level(level: u8) -> bool
 fn valid_length(axes: usize, level: u8, k: u8, cells: usize) -> bool
     ensures { result ≡ valid_length axes level k cells }
 {
-    if level < k {
+    let is_above = level < k;
+    if is_above {
         return true;
     }
     cells == axes

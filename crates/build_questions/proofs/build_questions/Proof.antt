@@ -30,7 +30,7 @@ start p = p.before.before.before.before.before.before
 abbrev behind-6 : tie.Else-not-valid_state → Place
 behind-6 c = c.before.before
 
-abbrev behind-8 : tie.Else-cells-axes → Place
+abbrev behind-8 : tie.Else-is_unlike → Place
 behind-8 c = behind-6 c.before.before.before
 
 abbrev behind-9 : tie.Else-not-valid_range → Place
@@ -62,9 +62,9 @@ past-7 : (c : tie.Else-not-valid_state-2) → Past 7 (behind-6 c.before.before)
 unfolding build_questions
 past-7 c = past-6 c.before.before ∙ yes_to _ _ (yes c.before.valid_state-2.ensures c.if-not-valid_state-2.false)
 
-past-8 : (c : tie.Else-cells-axes) → Past 8 (behind-8 c)
+past-8 : (c : tie.Else-is_unlike) → Past 8 (behind-8 c)
 unfolding build_questions
-past-8 c = past-7 c.before ∙ yes_to _ _ (eq-eqb _ _ c.if-cells-axes.false)
+past-8 c = past-7 c.before ∙ yes_to _ _ (eq-eqb _ _ c.if-is_unlike.false)
 
 past-9 : (c : tie.Else-not-valid_range) → Past 9 (behind-9 c)
 unfolding build_questions
@@ -115,9 +115,9 @@ returns-3 : tie.Need-returns-then-not-valid_state-2
 unfolding build_questions
 returns-3 c = sym (past-6 c.before.before ∙ no_to _ (no c.before.valid_state-2.ensures c.if-not-valid_state-2.true))
 
-returns-4 : tie.Need-returns-then-cells-axes
+returns-4 : tie.Need-returns-then-is_unlike
 unfolding build_questions
-returns-4 c = sym (past-7 c.before ∙ no_to _ (ne_eqb _ _ c.if-cells-axes.true))
+returns-4 c = sym (past-7 c.before ∙ no_to _ (ne_eqb _ _ c.if-is_unlike.true))
 
 returns-5 : tie.Need-returns-then-not-valid_range
 unfolding build_questions

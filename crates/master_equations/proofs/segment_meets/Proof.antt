@@ -44,18 +44,18 @@ rest c =
     (bits_same (at a.table.now (a.i * (2 * a.m + 2))) (at a.waypoints.now a.i)
     r.before.before.first-1.given
     r.before.left-1.given
-    c.before.if-first-left.false)
+    c.before.if-is_unlike.false)
 
 -- behind the third, the right waypoint is met
 right-met : (c : tie.Else-sums-right)
     → let a = (start (summed c)).args in
     same (at (summed c).sums-sums.result 0) (at a.waypoints.now (a.i + 1)) ≡ true
-right-met c = bits_same _ _ c.before.t18-1.given (read (summed c)).right-1.given c.if-sums-right.false
+right-met c = bits_same _ _ c.before.t19-1.given (read (summed c)).right-1.given c.if-sums-right.false
 
 returns : tie.Need-returns-then-not-before
 returns c = rw (c.if-not-before.true)
 
-returns-2 : tie.Need-returns-then-first-left
+returns-2 : tie.Need-returns-then-is_unlike
 unfolding segment_meets
 returns-2 c =
     let b = begun c.before in
@@ -63,7 +63,7 @@ returns-2 c =
     rw (
       b.if-not-before.false,
       add-zero,
-      bits_differ (at a.table.now (a.i * (2 * a.m + 2))) (at a.waypoints.now a.i) c.if-first-left.true,
+      bits_differ (at a.table.now (a.i * (2 * a.m + 2))) (at a.waypoints.now a.i) c.if-is_unlike.true,
     )
 
 returns-3 : tie.Need-returns-then-sums-right

@@ -23,7 +23,7 @@ use Rattle.master_questions.proofs.master_questions.Tie as tie
 abbrev start : tie.Else-number-ne0 → tie.Start
 start c = c.before.before
 
-abbrev begun : tie.Else-end-m → tie.Else-number-ne0
+abbrev begun : tie.Else-end_unlike → tie.Else-number-ne0
 begun c = c.before.before
 
 -- what was asked
@@ -45,13 +45,13 @@ past-3 : (c : tie.Else-number-ne0) → Past 3 (start c)
 unfolding questions_before size_questions length_questions
 past-3 c = first_yes (size (start c)) (drop 3 (asked (start c))) tt (all_yes c)
 
-past-4 : (c : tie.Else-start-m) → Past 4 (start c.before)
+past-4 : (c : tie.Else-start_unlike) → Past 4 (start c.before)
 unfolding questions_before size_questions length_questions
-past-4 c = past-3 c.before ∙ yes_to _ _ (eq-eqb _ _ c.if-start-m.false)
+past-4 c = past-3 c.before ∙ yes_to _ _ (eq-eqb _ _ c.if-start_unlike.false)
 
-past-5 : (c : tie.Else-end-m) → Past 5 (start (begun c))
+past-5 : (c : tie.Else-end_unlike) → Past 5 (start (begun c))
 unfolding questions_before size_questions length_questions
-past-5 c = past-4 c.before ∙ yes_to _ _ (eq-eqb _ _ c.if-end-m.false)
+past-5 c = past-4 c.before ∙ yes_to _ _ (eq-eqb _ _ c.if-end_unlike.false)
 
 past-6 : (c : tie.Else-not-fits) → Past 6 (start (begun c.before.before))
 unfolding questions_before size_questions length_questions
@@ -71,13 +71,13 @@ returns c =
     let answer = c.before.size_questions-number.ensures in
     answer ∙ sym (first_no_lem (size p) (drop 3 (asked p)) (λ e. c.if-number-ne0.true (answer ∙ e)))
 
-returns-2 : tie.Need-returns-then-start-m
+returns-2 : tie.Need-returns-then-start_unlike
 unfolding questions_before size_questions length_questions
-returns-2 c = sym (past-3 c.before ∙ no_to _ (ne_eqb _ _ c.if-start-m.true))
+returns-2 c = sym (past-3 c.before ∙ no_to _ (ne_eqb _ _ c.if-start_unlike.true))
 
-returns-3 : tie.Need-returns-then-end-m
+returns-3 : tie.Need-returns-then-end_unlike
 unfolding questions_before size_questions length_questions
-returns-3 c = sym (past-4 c.before ∙ no_to _ (ne_eqb _ _ c.if-end-m.true))
+returns-3 c = sym (past-4 c.before ∙ no_to _ (ne_eqb _ _ c.if-end_unlike.true))
 
 returns-4 : tie.Need-returns-then-not-fits
 unfolding questions_before size_questions length_questions
