@@ -5,7 +5,7 @@ usage: python3 tools/turn_proofs.py NAME..      at the top of the repository, ea
 
 For each function of the crate with a Proof.antt it reads names.json, which `rt check --generated DIR --old-names` writes, and turns
 `tie.Need-OLD`, places (`tie.After-OLD`), steps (`c.before.OLD.ensures`), loops and arms to their new names. A file that has been turned
-is left alone (its first line says so until the crate proves; --done drops those lines).
+is left alone: its first line says so, until that line is taken out where the crate proves.
 """
 import json
 import os
