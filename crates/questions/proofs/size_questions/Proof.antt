@@ -19,13 +19,15 @@ returns-3 : tie.Need-returns-then-points-gt-MOST_POINTS
 unfolding first_no size_questions
 returns-3 c =
     let two = c.before in
-    rw (yes two.before.before.valid_order.ensures two.before.if-not-valid_order.false, le-leb 2 _ two.if-points-lt-LEAST_POINTS.false, lt-leb _ 257 c.if-points-gt-MOST_POINTS.true)
+    let order = yes two.before.before.valid_order.ensures two.before.if-not-valid_order.false in
+    rw (order, le-leb 2 _ two.if-points-lt-LEAST_POINTS.false, lt-leb _ 257 c.if-points-gt-MOST_POINTS.true)
 
 returns-4 : tie.Need-returns
 unfolding first_no size_questions
 returns-4 c =
     let two = c.before in
-    rw (yes two.before.before.valid_order.ensures two.before.if-not-valid_order.false, le-leb 2 _ two.if-points-lt-LEAST_POINTS.false, le-leb _ 257 c.if-points-gt-MOST_POINTS.false)
+    let order = yes two.before.before.valid_order.ensures two.before.if-not-valid_order.false in
+    rw (order, le-leb 2 _ two.if-points-lt-LEAST_POINTS.false, le-leb _ 257 c.if-points-gt-MOST_POINTS.false)
 
 pub size_questions_spec : {M : Type 1} → statement M
 size_questions_spec = tie.close (tie.spec (λ c κs. search rules) returns returns-2 returns-3 returns-4)
