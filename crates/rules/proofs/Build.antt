@@ -10,6 +10,7 @@ use native.Mathlib.Omega.{arith}
 use lib.Dec.{T, ltb, eqb, eqb→eq}
 use lib.ListN.{length, length-append}
 use lib.Ieee.{Float}
+use Rattle.std.specs.Prelude.{Option}
 use Rattle.rules.specs.declared.BoundaryState.{BoundaryState}
 use Rattle.rules.specs.Tables.{m_of}
 use Rattle.rules.specs.Build.{BuildInput, valid_order, table_length, build_questions}
@@ -52,7 +53,7 @@ module _ (m n : ℕ) (w start end : List Float) where
 
 -- ---- all axes
 
-pub length_state : (b : BuildInput) (state : BoundaryState) (numbers : List Float) (axis : ℕ) → length (axis_state b state numbers axis) ≡ m_of b.config.order
+pub length_state : (b : BuildInput) (state : Option BoundaryState) (numbers : List Float) (axis : ℕ) → length (axis_state b state numbers axis) ≡ m_of b.config.order
 unfolding axis_state
 length_state b state numbers axis = length-listed _ _
 

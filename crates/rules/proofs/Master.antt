@@ -2,15 +2,16 @@
 -- Assumes nothing.
 use mathlib.Core.Path.{◌≡◌, refl, sym, ap, ◌∙◌, subst}
 use mathlib.Core.Logic.{◌↔◌}
-use mathlib.Core.Bool.{Bool, cond, ◌&&◌}
+use mathlib.Core.Bool.{Bool, cond, not, ◌&&◌}
 use Prim.Native.Nat.{ℕ, ◌-◌, ◌<◌}
 use lib.Dec.{T, eqb, eqb→eq, eqb_refl}
 use lib.IntN.{ℤ, pos, negsuc}
 use lib.Ieee.Fits.{and_i, and_l, and_r}
-use Rattle.rules.specs.declared.MasterAnswer.{MasterAnswer}
-use Rattle.rules.specs.declared.MasterAnswer.TheVariants.{Yes, No, Refused}
+use Rattle.std.specs.Prelude.{Result, Ok, Err}
+use Rattle.rules.specs.declared.PathError.{PathError}
 use Rattle.law_lists.specs.Lists.{every}
 use Rattle.rules.specs.Tables.{m_of}
+use Rattle.rules.proofs.Questions.{error_of, error-number, number-not_zero}
 use Rattle.rules.specs.Master.{MasterSet, Equations, MasterSays, master_number, master_says, same, segments}
 use Rattle.rules.specs.Master.{meets_left, meets_right, meets_start, meets_end, meets_joints, endpoint_equations, joint_equations, check_master}
 use Rattle.law_lists.proofs.Lists.{every_at, every_of}
@@ -100,15 +101,20 @@ module _ (s : MasterSet) where
 
 -- ---- the answer
 
-answer_of : MasterSays → MasterAnswer
-answer_of says = cond says.refused (Refused says.number) (cond says.good Yes No)
+answer_of : MasterSays → Result Bool PathError
+answer_of says = cond says.refused (Err (error_of says.number)) (Ok says.good)
 
-back : (a : MasterAnswer) → answer_of (master_says a) ≡ a
+back : (a : Result Bool PathError) → answer_of (master_says a) ≡ a
 unfolding answer_of master_says
-back Yes = refl
-back No = refl
-back (Refused number) = refl
+back (Ok good) = refl
+back (Err error) = ap Err (error-number error)
+
+-- M8: a refusal has a number, and no other answer has one
+pub refused_where_numbered : (a : Result Bool PathError) → (master_says a).refused ≡ not (eqb (master_says a).number 0)
+unfolding master_says
+refused_where_numbered (Ok good) = refl
+refused_where_numbered (Err error) = sym (ap not (number-not_zero error))
 
 -- F11: no two answers say the same
-pub says_decides : (a b : MasterAnswer) → master_says a ≡ master_says b → a ≡ b
+pub says_decides : (a b : Result Bool PathError) → master_says a ≡ master_says b → a ≡ b
 says_decides a b e = sym (back a) ∙ ap answer_of e ∙ back b

@@ -1,13 +1,28 @@
 -- The answer 0 means a yes to every question: `said_yes`, at the place of a question in its list. What the first question's answer gives:
 -- `yes_to`, `no_to`. What the first of two lists gives: `first_no`, where one of its questions says no, and `first_yes`, where none does. What holds of
 -- 0 and of every question's number holds of the answer: `answer_passes`. Assumes nothing.
-use mathlib.Core.Path.{◌≡◌, refl, sym, subst}
-use mathlib.Core.Bool.{Bool, true, false, not, ◌&&◌}
+use mathlib.Core.Path.{◌≡◌, refl, sym, ap, ◌∙◌, subst}
+use mathlib.Core.Bool.{Bool, true, false, cond, not, ◌&&◌}
 use mathlib.Core.List.{List, [], ◌∷◌, ◌++◌}
 use Prim.Native.Nat.{ℕ, zero, suc}
 use lib.Dec.{T, eqb, eqb_refl, T_not}
 use lib.Ieee.Fits.{and_l, and_r}
-use Rattle.rules.specs.Questions.{Question, ask, first_no}
+use Rattle.rules.specs.declared.PathError.{PathError}
+use Rattle.rules.specs.declared.PathError.TheVariants.{
+  InvalidLength,
+  InvalidShape,
+  InvalidArgument,
+  InvalidDimension,
+  InvalidRange,
+  InvalidOrder,
+  DimensionMismatch,
+  NotEnoughWaypoints,
+  OutOfRangeS,
+  UnsupportedDerivativeOrder,
+  InvalidSheet,
+  SheetTooDeep,
+}
+use Rattle.rules.specs.Questions.{Question, ask, first_no, number_of}
 
 -- the answer to the question at a place, counted from 0
 abbrev pub answer_at : List Question → ℕ → Bool
@@ -63,3 +78,52 @@ unfolding first_no
 first_yes [] others h e = refl
 first_yes (ask true n ∷ rest) others h e = first_yes rest others (and_r (not (eqb n 0)) (numbered rest) h) e
 first_yes (ask false n ∷ rest) others h e = absurd (never n (numbered rest) h e)
+
+-- ---- refusals
+
+-- the refusal that has a number
+pub error_of : ℕ → PathError
+error_of n =
+    cond (eqb n 2) InvalidLength (cond (eqb n 3) InvalidShape (cond (eqb n 4) InvalidArgument
+    (cond (eqb n 300) InvalidDimension (cond (eqb n 301) InvalidRange (cond (eqb n 302) InvalidOrder
+    (cond (eqb n 303) DimensionMismatch (cond (eqb n 304) NotEnoughWaypoints (cond (eqb n 305) OutOfRangeS
+    (cond (eqb n 308) UnsupportedDerivativeOrder (cond (eqb n 600) InvalidSheet SheetTooDeep))))))))))
+
+pub error-number : (e : PathError) → error_of (number_of e) ≡ e
+unfolding error_of
+error-number InvalidLength = refl
+error-number InvalidShape = refl
+error-number InvalidArgument = refl
+error-number InvalidDimension = refl
+error-number InvalidRange = refl
+error-number InvalidOrder = refl
+error-number DimensionMismatch = refl
+error-number NotEnoughWaypoints = refl
+error-number OutOfRangeS = refl
+error-number UnsupportedDerivativeOrder = refl
+error-number InvalidSheet = refl
+error-number SheetTooDeep = refl
+
+-- no two refusals have one number
+pub number_decides : (a b : PathError) → number_of a ≡ number_of b → a ≡ b
+number_decides a b e = sym (error-number a) ∙ ap error_of e ∙ error-number b
+
+-- no refusal has the number 0
+pub number-not_zero : (e : PathError) → eqb (number_of e) 0 ≡ false
+number-not_zero InvalidLength = refl
+number-not_zero InvalidShape = refl
+number-not_zero InvalidArgument = refl
+number-not_zero InvalidDimension = refl
+number-not_zero InvalidRange = refl
+number-not_zero InvalidOrder = refl
+number-not_zero DimensionMismatch = refl
+number-not_zero NotEnoughWaypoints = refl
+number-not_zero OutOfRangeS = refl
+number-not_zero UnsupportedDerivativeOrder = refl
+number-not_zero InvalidSheet = refl
+number-not_zero SheetTooDeep = refl
+
+pub refused_not_zero : (e : PathError) → number_of e ≡ 0 → ⊥
+refused_not_zero e h =
+    T_not (eqb (number_of e) 0) (subst (λ (b : Bool). T (not b)) (sym (number-not_zero e)) tt)
+    (subst (λ (k : ℕ). T (eqb k 0)) (sym h) (eqb_refl 0))

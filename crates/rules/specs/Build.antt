@@ -1,16 +1,16 @@
 -- The build: document 01's questions before a build, what a build answers, and its rules of the arithmetic, in the paper's order. Assumes nothing.
-use Rattle.std.specs.Prelude.{ℕ, zero, suc, ◌+◌, ◌*◌, ◌-◌, Bool, true, cond, ◌&&◌, ◌||◌, List, [], ◌∷◌, ◌++◌, length, leb, ltb, eqb, Float}
+use Rattle.std.specs.Prelude.{ℕ, zero, suc, ◌+◌, ◌*◌, ◌-◌, Bool, true, cond, ◌&&◌, ◌||◌, List, [], ◌∷◌, ◌++◌, length, leb, ltb, eqb, Option, Some, None, Result, Ok, Err, Float}
 use Rattle.std.specs.Float.Ieee.{lt}
 use Rattle.rules.specs.declared.PathParam.{PathParam}
 use Rattle.rules.specs.declared.OutOfRangeMode.TheVariants.{Error}
 use Rattle.rules.specs.declared.BoundaryState.{BoundaryState}
-use Rattle.rules.specs.declared.BoundaryState.TheVariants.{None, Given}
 use Rattle.rules.specs.declared.SplineConfig.{SplineConfig}
 use Rattle.rules.specs.declared.PathRecord.{PathRecord}
-use Rattle.rules.specs.declared.BuildAnswer.{BuildAnswer}
+use Rattle.rules.specs.declared.SplineInput.{SplineInput}
+use Rattle.rules.specs.declared.PathError.{PathError}
 use Rattle.rules.specs.Floats.{◌⊕◌, ◌⊖◌, ◌⊗◌, ◌⊘◌, ◌!◌, +0, of_count, finite, sum_of}
 use Rattle.law_lists.specs.Lists.{joined, listed, all}
-use Rattle.rules.specs.Questions.{Question, ask, first_no}
+use Rattle.rules.specs.Questions.{Question, ask, first_no, number_of}
 use Rattle.rules.specs.Tables.{m_of, A, C, R, H}
 use Rattle.rules.specs.Solve.{entry, times, minus, solve, node_factors, solved_c_of}
 
@@ -25,6 +25,14 @@ pub record BuildInput : Type 0 where
 
 abbrev pub input_of : SplineConfig → ℕ → ℕ → List Float → List Float → List Float → BuildInput
 input_of config points axes waypoints start end = record { config = config; points = points; axes = axes; waypoints = waypoints; start = start; end = end }
+
+-- the same of what code is given
+abbrev pub given_by : SplineInput → BuildInput
+given_by i = input_of i.config i.points i.axes i.waypoints.now i.start.now i.end.now
+
+-- B12: a state that is given
+abbrev pub given : ℕ → ℕ → Bool → Option BoundaryState
+given rows columns per_unit_of_s = Some (record { rows = rows; columns = columns; per_unit_of_s = per_unit_of_s })
 
 -- B11, B12: "Waypoints are column-major, axes by points"; so are the numbers of a state, axes by m: an axis's number in column k
 abbrev pub of_axis : ℕ → List Float → ℕ → ℕ → Float
@@ -41,9 +49,9 @@ unfoldable pub valid_axes : ℕ → Bool
 valid_axes axes = leb 1 axes && leb axes 8
 
 -- B6: "Is the start state none, or axes by m with that many numbers?"
-unfoldable pub valid_state : ℕ → ℕ → BoundaryState → List Float → Bool
+unfoldable pub valid_state : ℕ → ℕ → Option BoundaryState → List Float → Bool
 valid_state axes m None numbers = true
-valid_state axes m (Given rows columns perUnit) numbers = eqb rows axes && eqb columns m && eqb (length numbers) (axes * m)
+valid_state axes m (Some state) numbers = eqb state.rows axes && eqb state.columns m && eqb (length numbers) (axes * m)
 
 -- B7, Q7: "axes × segments × (order + 1)"
 abbrev pub table_length : ℕ → ℕ → ℕ → ℕ
@@ -59,9 +67,9 @@ valid_range segments lo hi =
     finite lo.0 && finite hi.0 && lt lo.0 hi.0 && finite (inv_ds_of segments lo hi) && lt +0 (inv_ds_of segments lo hi)
 
 -- B9: "Is every .. given state number finite?"
-unfoldable pub finite_state : BoundaryState → List Float → Bool
+unfoldable pub finite_state : Option BoundaryState → List Float → Bool
 finite_state None numbers = true
-finite_state (Given rows columns perUnit) numbers = all finite numbers
+finite_state (Some state) numbers = all finite numbers
 
 -- the questions about what a build is given, into a buffer of so many cells, in order. (Question 10 is struck: crates/theorem_pivots.)
 unfoldable pub build_questions : BuildInput → ℕ → List Question
@@ -108,6 +116,15 @@ refused_record = record {
   inv_ds = +0;
   mode = Error;
 }
+
+-- F11, B13, B15: what a build answers in document 01's terms: 0 or the refusal's number, with the record beside it
+pub record BuildAnswer : Type 0 where
+  pub number : ℕ
+  pub path : PathRecord
+
+abbrev pub build_answered : Result PathRecord PathError → BuildAnswer
+build_answered (Ok path) = record { number = 0; path = path }
+build_answered (Err error) = record { number = number_of error; path = refused_record }
 
 -- B13, B15: "A yes to all returns 0 and the record"; "A refusal returns its number and the all-zero record"
 -- V1, V2, V3, V4: a preview "gives the number and record that the build would give"; the buffer counts "only as a length", which is any number
@@ -175,11 +192,11 @@ divided (suc k) x by = divided k x by ⊘ by
 
 -- R19, R20, B12: column r of an axis. "A node's numbers are Taylor coefficients in segment units, copied unscaled from the state"; none is "all zero".
 -- "a state may be marked per unit of s; column r, counted from 0, is then divided by inv_ds r + 1 times"
-unfoldable pub boundary_number : ℕ → Float → BoundaryState → List Float → ℕ → ℕ → Float
+unfoldable pub boundary_number : ℕ → Float → Option BoundaryState → List Float → ℕ → ℕ → Float
 boundary_number axes inv None numbers axis r = +0
-boundary_number axes inv (Given rows columns perUnit) numbers axis r =
+boundary_number axes inv (Some state) numbers axis r =
     let x = of_axis axes numbers axis r in
-    cond perUnit (divided (r + 1) x inv) x
+    cond state.per_unit_of_s (divided (r + 1) x inv) x
 
 -- ---- the table
 
@@ -188,7 +205,7 @@ unfoldable pub axis_waypoints : BuildInput → ℕ → List Float
 axis_waypoints b axis = listed b.points (of_axis b.axes b.waypoints axis)
 
 -- an axis's m numbers of a state
-unfoldable pub axis_state : BuildInput → BoundaryState → List Float → ℕ → List Float
+unfoldable pub axis_state : BuildInput → Option BoundaryState → List Float → ℕ → List Float
 axis_state b state numbers axis = listed (m_of b.config.order) (boundary_number b.axes (accepted_record b).inv_ds state numbers axis)
 
 -- B14: "the coefficients, by axis, then segment, then power". An axis's are a function of its own waypoints and numbers.

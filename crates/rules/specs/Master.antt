@@ -1,10 +1,9 @@
 -- The check of masters, module 7 of document 01: its questions, its endpoint and joint equations over ℤ, and its answer. A master is the paper's word for
 -- a curve kept in whole numbers, a set its word for all that one check is given, a joint for the point where two segments meet. Assumes nothing.
-use Rattle.std.specs.Prelude.{◌≡◌, ℕ, zero, suc, ◌+◌, ◌*◌, ◌-◌, ◌^◌, ◌<◌, Bool, true, false, not, ◌&&◌, List, [], ◌∷◌, ◌++◌, ℤ, pos, negsuc, nat_abs, ◌+ℤ◌, ◌*ℤ◌, length, get_or, leb, eqb}
-use Rattle.rules.specs.declared.MasterAnswer.{MasterAnswer}
-use Rattle.rules.specs.declared.MasterAnswer.TheVariants.{Yes, No, Refused}
+use Rattle.std.specs.Prelude.{◌≡◌, ℕ, zero, suc, ◌+◌, ◌*◌, ◌-◌, ◌^◌, ◌<◌, Bool, true, false, not, ◌&&◌, List, [], ◌∷◌, ◌++◌, ℤ, pos, negsuc, nat_abs, ◌+ℤ◌, ◌*ℤ◌, length, get_or, leb, eqb, Result, Ok, Err}
+use Rattle.rules.specs.declared.PathError.{PathError}
 use Rattle.law_lists.specs.Lists.{all, every}
-use Rattle.rules.specs.Questions.{Question, ask, first_no}
+use Rattle.rules.specs.Questions.{Question, ask, first_no, number_of}
 use Rattle.rules.specs.Tables.{m_of}
 use Rattle.rules.specs.Build.{valid_order}
 
@@ -143,10 +142,9 @@ pub record MasterSays : Type 0 where
   pub number : ℕ
   pub good : Bool
 
-unfoldable pub master_says : MasterAnswer → MasterSays
-master_says Yes = record { refused = false; number = 0; good = true }
-master_says No = record { refused = false; number = 0; good = false }
-master_says (Refused number) = record { refused = true; number = number; good = false }
+unfoldable pub master_says : Result Bool PathError → MasterSays
+master_says (Ok good) = record { refused = false; number = 0; good = good }
+master_says (Err error) = record { refused = true; number = number_of error; good = false }
 
 -- D1, D2c, M8: refused by the first no of the questions, else yes exactly where all the equations hold
 unfoldable pub check_master : MasterSet → MasterSays

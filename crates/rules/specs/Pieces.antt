@@ -1,20 +1,19 @@
 -- The trial pieces of document 01 that are starred, a to l, as one list, and what it is for a piece to hold of the definitions. `starred_hold` of
 -- proofs/Pieces.antt is the single claim about all of them. A second list, `further`, has the pieces m, n and o, and a piece for each rule that no piece tells.
 -- Assumes nothing.
-use Rattle.std.specs.Prelude.{ℕ, ◌+◌, ◌-◌, ◌/◌, ◌^◌, Bool, true, false, not, ◌&&◌, ◌||◌, List, [], ◌∷◌, map, ℤ, pos, negsuc, length, replicate, eqb, Float}
+use Rattle.std.specs.Prelude.{ℕ, ◌+◌, ◌-◌, ◌/◌, ◌^◌, Bool, true, false, not, ◌&&◌, ◌||◌, List, [], ◌∷◌, map, ℤ, pos, negsuc, length, replicate, eqb, Option, None, Float}
 use Rattle.std.specs.Bool.{beq}
 use Rattle.std.specs.Float.{nan, fin, binary64}
 use Rattle.std.specs.Float.Ieee.{eq, to_bits}
 use Rattle.rules.specs.declared.OutOfRangeMode.{OutOfRangeMode}
 use Rattle.rules.specs.declared.OutOfRangeMode.TheVariants.{Error, Clamp}
 use Rattle.rules.specs.declared.BoundaryState.{BoundaryState}
-use Rattle.rules.specs.declared.BoundaryState.TheVariants.{None, Given}
 use Rattle.rules.specs.Floats.{◌!◌, +0, of_count, of_ints}
 use Rattle.law_lists.specs.Lists.{joined, every}
 use Rattle.rules.specs.Fused.{fused}
 use Rattle.rules.specs.Tables.{m_of, neg}
 use Rattle.rules.specs.Solve.{pivot_row}
-use Rattle.rules.specs.Build.{BuildInput, table_length, build_number, build_answer, buffer_after}
+use Rattle.rules.specs.Build.{BuildInput, given, table_length, build_number, build_answer, buffer_after}
 use Rattle.rules.specs.Query.{QueryInput, Lengths, query_number, derivative_after, lookup, lookup_says}
 use Rattle.rules.specs.Master.{MasterSet, check_master, endpoint_equations, meets_joints}
 
@@ -39,15 +38,15 @@ pub data Piece : Type 0 where
   loose : MasterSet → Piece
 
 -- a build on the range from 0 to hi: so many axes, their waypoints, and both states with their numbers
-unfoldable pub input : ℕ → ℕ → OutOfRangeMode → ℕ → List Float → BoundaryState → List Float → BoundaryState → List Float → BuildInput
-input order hi mode axes waypoints startState start end_state_of end = record {
+unfoldable pub input : ℕ → ℕ → OutOfRangeMode → ℕ → List Float → Option BoundaryState → List Float → Option BoundaryState → List Float → BuildInput
+input order hi mode axes waypoints first start last end = record {
   config = record {
     order = order;
     s_min = record { 0 = +0 };
     s_max = record { 0 = of_count hi };
     out_of_range_mode = mode;
-    start_state = startState;
-    end_state = end_state_of;
+    start_state = first;
+    end_state = last;
   };
   points = length waypoints / axes;
   axes = axes;
@@ -59,7 +58,7 @@ input order hi mode axes waypoints startState start end_state_of end = record {
 -- a build from a set's points and states, not marked
 unfoldable pub build_of : MasterSet → BuildInput
 build_of s =
-    let state = Given 1 (m_of s.order) false in
+    let state = given 1 (m_of s.order) false in
     input s.order 1 Error 1 (of_ints s.waypoints) state (of_ints s.start) state (of_ints s.end)
 
 -- the very value: the same bits
@@ -115,7 +114,7 @@ abbrev pub of_nats : List ℕ → List Float
 of_nats ns = map of_count ns
 
 -- one axis on the range from 0 to hi, with the end state none
-unfoldable pub curve : ℕ → ℕ → List ℕ → BoundaryState → List ℕ → OutOfRangeMode → BuildInput
+unfoldable pub curve : ℕ → ℕ → List ℕ → Option BoundaryState → List ℕ → OutOfRangeMode → BuildInput
 curve order hi waypoints state start mode = input order hi mode 1 (of_nats waypoints) state (of_nats start) None []
 
 -- "States zero unless said."
@@ -124,7 +123,7 @@ at_rest order hi waypoints = curve order hi waypoints None [] Error
 
 -- with a start state, not marked
 unfoldable pub starting : ℕ → List ℕ → List ℕ → BuildInput
-starting order waypoints start = curve order 1 waypoints (Given 1 (length start) false) start Error
+starting order waypoints start = curve order 1 waypoints (given 1 (length start) false) start Error
 
 -- a set with the points and the end state of piece d
 unfoldable pub set_of_d : ℤ → List ℤ → MasterSet
@@ -175,7 +174,7 @@ further =
     found (at_rest 3 49 (0 ∷ 1 ∷ [])) (of_count 49) 0 ((2 ^ 53 - 1) ÷2^ 53) ∷
     found (curve 3 49 (0 ∷ 1 ∷ []) None [] Clamp) (of_count 60) 0 ((2 ^ 53 - 1) ÷2^ 53) ∷
     -- P4: piece n, range 0 to 2, points 0 1, order 3, start 3 per unit of s: coefficient 1 is 6
-    built (curve 3 2 (0 ∷ 1 ∷ []) (Given 1 1 true) (3 ∷ []) Error) (of_ints (pos 0 ∷ pos 6 ∷ neg 9 ∷ pos 4 ∷ [])) ∷
+    built (curve 3 2 (0 ∷ 1 ∷ []) (given 1 1 true) (3 ∷ []) Error) (of_ints (pos 0 ∷ pos 6 ∷ neg 9 ∷ pos 4 ∷ [])) ∷
     -- P5: piece o, all but the 257 points that are accepted: one more gives 2; 1 point 304; order 4 with 1 point 302; s NaN 305 in both modes;
     -- state number 2^40 + 1 in a check 4
     answered (build_number (at_rest 3 1 (replicate 258 0)) (table_length 1 257 3)) 2 ∷
@@ -216,10 +215,10 @@ further =
       table = pos 2 ∷ neg 1 ∷ pos 1 ∷ pos 3 ∷ neg 2 ∷ pos 1 ∷ pos 0 ∷ pos 1 ∷ [];
     }) ∷
     -- two axes, column-major: points 0 1 with the start 0 1, beside points 0 0 at rest
-    built (input 5 1 Error 2 (of_nats (0 ∷ 0 ∷ 1 ∷ 0 ∷ [])) (Given 2 2 false) (of_nats (0 ∷ 0 ∷ 1 ∷ 0 ∷ [])) None [])
+    built (input 5 1 Error 2 (of_nats (0 ∷ 0 ∷ 1 ∷ 0 ∷ [])) (given 2 2 false) (of_nats (0 ∷ 0 ∷ 1 ∷ 0 ∷ [])) None [])
     (of_ints (pos 0 ∷ pos 0 ∷ pos 1 ∷ pos 7 ∷ neg 12 ∷ pos 5 ∷ pos 0 ∷ pos 0 ∷ pos 0 ∷ pos 0 ∷ pos 0 ∷ pos 0 ∷ [])) ∷
     -- "divided by inv_ds r + 1 times": range 0 to 2, start 0 3 per unit of s, so coefficient 2 is 12
-    built (curve 5 2 (0 ∷ 0 ∷ []) (Given 1 2 true) (0 ∷ 3 ∷ []) Error) (of_ints (pos 0 ∷ pos 0 ∷ pos 12 ∷ neg 36 ∷ pos 36 ∷ neg 12 ∷ [])) ∷
+    built (curve 5 2 (0 ∷ 0 ∷ []) (given 1 2 true) (0 ∷ 3 ∷ []) Error) (of_ints (pos 0 ∷ pos 0 ∷ pos 12 ∷ neg 36 ∷ pos 36 ∷ neg 12 ∷ [])) ∷
     -- orders 5 and 7 in a query: b and c at s 0.25
     queried (at_rest 5 1 (0 ∷ 1 ∷ [])) (1 ÷2^ 2) ((53 ÷2^ 9) ∷ (135 ÷2^ 7) ∷ (45 ÷2^ 3) ∷ fin true 15 (negsuc 0) ∷ []) ∷
     queried (at_rest 7 1 (0 ∷ 1 ∷ [])) (1 ÷2^ 2) ((289 ÷2^ 12) ∷ (945 ÷2^ 10) ∷ (945 ÷2^ 7) ∷ (315 ÷2^ 5) ∷ []) ∷

@@ -1,5 +1,5 @@
 -- The query: document 01's questions before a query, the lookup, the evaluation of a segment, and the four buffers afterwards. Assumes nothing.
-use Rattle.std.specs.Prelude.{◌≡◌, ℕ, zero, suc, ◌+◌, ◌*◌, ◌-◌, ◌/◌, ◌%◌, ◌^◌, Bool, false, cond, not, ◌&&◌, ◌||◌, List, [], ◌∷◌, ◌++◌, pos, negsuc, length, take, drop, leb, eqb, Float}
+use Rattle.std.specs.Prelude.{◌≡◌, ℕ, zero, suc, ◌+◌, ◌*◌, ◌-◌, ◌/◌, ◌%◌, ◌^◌, Bool, false, cond, not, ◌&&◌, ◌||◌, List, [], ◌∷◌, ◌++◌, pos, negsuc, length, take, drop, leb, eqb, Result, Ok, Err, Float}
 use Rattle.std.specs.Float.{nan, inf, fin, binary64}
 use Rattle.std.specs.Float.Ieee.{lt, le, eq, is_nan}
 use Rattle.rules.specs.declared.PathParam.{PathParam}
@@ -7,8 +7,8 @@ use Rattle.rules.specs.declared.SegmentUnits.{SegmentUnits}
 use Rattle.rules.specs.declared.OutOfRangeMode.{OutOfRangeMode}
 use Rattle.rules.specs.declared.OutOfRangeMode.TheVariants.{Error, Clamp}
 use Rattle.rules.specs.declared.PathRecord.{PathRecord}
-use Rattle.rules.specs.declared.Lookup.{Lookup}
-use Rattle.rules.specs.declared.Lookup.TheVariants.{At, OutOfRange}
+use Rattle.rules.specs.declared.SegmentTau.{SegmentTau}
+use Rattle.rules.specs.declared.OutOfRange.{OutOfRange}
 use Rattle.rules.specs.Floats.{◌⊕◌, ◌⊖◌, ◌⊗◌, ◌!◌, +0, +1, of_count}
 use Rattle.law_lists.specs.Lists.{listed}
 use Rattle.rules.specs.Questions.{Question, ask, first_no}
@@ -126,18 +126,18 @@ exact_rest (fin s m (pos k)) = +0
 exact_rest (fin s m (negsuc k)) = fin false (m % 2 ^ suc k) (negsuc k)
 
 -- R23, R24, R25: "At or below 0: segment 0, tau 0. At or above the segment count: last, tau 1. Else whole part and exact rest."
-unfoldable pub located : ℕ → SegmentUnits → Lookup
+unfoldable pub located : ℕ → SegmentUnits → SegmentTau
 located segments x =
-    cond (le x.0 +0) (At 0 (record { 0 = +0 }))
-    (cond (le (of_count segments) x.0) (At (segments - 1) (record { 0 = +1 }))
-    (At (whole_part x.0) (record { 0 = exact_rest x.0 })))
+    cond (le x.0 +0) (record { segment = 0; tau = record { 0 = +0 } })
+    (cond (le (of_count segments) x.0) (record { segment = segments - 1; tau = record { 0 = +1 } })
+    (record { segment = whole_part x.0; tau = record { 0 = exact_rest x.0 } }))
 
 -- Q11, R21, R22: "The lookup answers a segment with its tau, or 305 with the s given."
-unfoldable pub lookup : PathRecord → PathParam → Lookup
+unfoldable pub lookup : PathRecord → PathParam → Result SegmentTau OutOfRange
 lookup p s =
     cond (in_range p.mode p.s_min p.s_max s)
-    (located p.segments (scaled p (clamped p.mode p.s_min p.s_max s)))
-    (OutOfRange s)
+    (Ok (located p.segments (scaled p (clamped p.mode p.s_min p.s_max s))))
+    (Err (record { 0 = s }))
 
 -- F11, Q11: document 01's number and values of each case of a lookup's answer: the value is tau, or the s that was refused.
 pub record LookupSays : Type 0 where
@@ -145,9 +145,9 @@ pub record LookupSays : Type 0 where
   pub segment : ℕ
   pub value : Float
 
-unfoldable pub lookup_says : Lookup → LookupSays
-lookup_says (At segment tau) = record { number = 0; segment = segment; value = tau.0 }
-lookup_says (OutOfRange s) = record { number = 305; segment = 0; value = s.0 }
+unfoldable pub lookup_says : Result SegmentTau OutOfRange → LookupSays
+lookup_says (Ok at) = record { number = 0; segment = at.segment; value = at.tau.0 }
+lookup_says (Err refused) = record { number = 305; segment = 0; value = refused.0.0 }
 
 -- ---- the evaluation of a segment's coefficients a at t: derivative k in segment units
 

@@ -1,16 +1,15 @@
 -- What a job sheet stands for, what is built from it, and the program's whole output, by document 02's Wish 1. Assumes nothing.
-use Rattle.std.specs.Prelude.{Bool, false, cond, ◌&&◌, List, [], ◌∷◌, ◌++◌, ℕ, zero, suc, ◌+◌, ◌*◌, ◌-◌, ◌/◌, ◌%◌, ◌^◌, min, ℤ, pos, negsuc, length, take, drop, get_or, leb, ltb, eqb, Float}
+use Rattle.std.specs.Prelude.{Bool, false, cond, ◌&&◌, List, [], ◌∷◌, ◌++◌, ℕ, zero, suc, ◌+◌, ◌*◌, ◌-◌, ◌/◌, ◌%◌, ◌^◌, min, ℤ, pos, negsuc, length, take, drop, get_or, leb, ltb, eqb, Result, Ok, Err, Float}
 use Rattle.std.specs.Float.{binary64}
 use Rattle.std.specs.Float.Ieee.{of_int, to_bits}
 use Rattle.law_lists.specs.Lists.{joined, listed, all}
 use Rattle.rules.specs.declared.OutOfRangeMode.TheVariants.{Error}
-use Rattle.rules.specs.declared.BoundaryState.TheVariants.{Given}
 use Rattle.rules.specs.declared.PathRecord.{PathRecord}
-use Rattle.rules.specs.declared.SheetPlace.{SheetPlace}
-use Rattle.rules.specs.declared.SheetAnswer.{SheetAnswer}
-use Rattle.rules.specs.declared.SheetPrinted.{SheetPrinted}
+use Rattle.rules.specs.declared.PathError.{PathError}
+use Rattle.rules.specs.declared.SheetError.{SheetError}
 use Rattle.rules.specs.Floats.{◌!◌}
-use Rattle.rules.specs.Build.{BuildInput, input_of, table_length, build_answer, refused_record, buffer_after, table}
+use Rattle.rules.specs.Questions.{number_of}
+use Rattle.rules.specs.Build.{BuildInput, input_of, given, table_length, build_answer, refused_record, buffer_after, table}
 use Rattle.rules.specs.Sheets.{
   bytes,
   Item,
@@ -102,8 +101,8 @@ sheet_input (sheet (heading order (range from to)) axes) =
       s_min = record { 0 = of_int binary64 from };
       s_max = record { 0 = of_int binary64 to };
       out_of_range_mode = Error;
-      start_state = Given (length each) (columns_of starts) false;
-      end_state = Given (length each) (columns_of ends) false;
+      start_state = given (length each) (columns_of starts) false;
+      end_state = given (length each) (columns_of ends) false;
     })
     count
     (length each)
@@ -112,6 +111,35 @@ sheet_input (sheet (heading order (range from to)) axes) =
     (column_major ends (columns_of ends))
 
 -- ---- what is answered
+
+-- J12: a refusal's number and byte place, or 0 and the sheet's length
+pub record SheetPlace : Type 0 where
+  pub number : ℕ
+  pub at : ℕ
+
+-- J12, J13: the same, with the record of the path that was built from the sheet
+pub record SheetAnswer : Type 0 where
+  pub number : ℕ
+  pub at : ℕ
+  pub path : PathRecord
+
+-- 0 and how many bytes of output were written, or the number of a refusal and no bytes
+pub record SheetPrinted : Type 0 where
+  pub number : ℕ
+  pub count : ℕ
+
+-- F11: what the answers for a sheet are in document 02's terms
+abbrev pub place_answered : {A : Type 0} → List ℕ → Result A SheetError → SheetPlace
+place_answered t (Ok value) = record { number = 0; at = length t }
+place_answered t (Err error) = record { number = number_of error.cause; at = error.at }
+
+abbrev pub sheet_answered : List ℕ → Result PathRecord SheetError → SheetAnswer
+sheet_answered t (Ok path) = record { number = 0; at = length t; path = path }
+sheet_answered t (Err error) = record { number = number_of error.cause; at = error.at; path = refused_record }
+
+abbrev pub count_answered : Result ℕ PathError → SheetPrinted
+count_answered (Ok count) = record { number = 0; count = count }
+count_answered (Err error) = record { number = number_of error; count = 0 }
 
 -- how many coefficients a build has
 unfoldable pub cells_of : BuildInput → ℕ

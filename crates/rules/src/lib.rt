@@ -1,6 +1,8 @@
 // The types that travel between calls. What they mean, and what every function of the library is
-// held to, stands in specs/: document 01 as definitions, a file a subject. This crate has no code.
+// held to, stands in specs/: document 01 as definitions, a file a subject. Of code there is the number of a refusal alone.
 #![tactic(auto)]
+
+ghost use Rattle.std.specs.Prelude.{◌≡◌};
 
 // F1: a position along s: the source's path parameter.
 #[derive(Clone, Copy)]
@@ -17,16 +19,13 @@ pub enum OutOfRangeMode {
     Clamp,
 }
 
-// B12: a boundary state: none, which is all zero, or so many rows (axes) and columns (numbers of a node).
+// B12: a boundary state that is given: so many rows (axes) and columns (numbers of a node). A state that is none is all zero.
 // The numbers are a slice beside it, column-major, and nobody looks at it where the state is none.
 #[derive(Clone, Copy)]
-pub enum BoundaryState {
-    None,
-    Given {
-        rows: usize,
-        columns: usize,
-        per_unit_of_s: bool,
-    },
+pub struct BoundaryState {
+    pub rows: usize,
+    pub columns: usize,
+    pub per_unit_of_s: bool,
 }
 
 // What a build is told beside the points and the states' numbers.
@@ -36,8 +35,19 @@ pub struct SplineConfig {
     pub s_min: PathParam,
     pub s_max: PathParam,
     pub out_of_range_mode: OutOfRangeMode,
-    pub start_state: BoundaryState,
-    pub end_state: BoundaryState,
+    pub start_state: Option<BoundaryState>,
+    pub end_state: Option<BoundaryState>,
+}
+
+// What a build is given, the coefficient buffer aside: the waypoints, column-major, and the numbers of both states.
+#[derive(Clone, Copy)]
+pub struct SplineInput<'a> {
+    pub config: SplineConfig,
+    pub points: usize,
+    pub axes: usize,
+    pub waypoints: &'a [f64],
+    pub start: &'a [f64],
+    pub end: &'a [f64],
 }
 
 // F6, B13: what a path is beside its coefficients. It is handed over by value, its three floats with it.
@@ -52,48 +62,60 @@ pub struct PathRecord {
     pub mode: OutOfRangeMode,
 }
 
-// F8, B13, B15: a build's answer: 0 or the refusal's number, with the record beside it.
-#[derive(Clone, Copy)]
-pub struct BuildAnswer {
-    pub number: u32,
-    pub path: PathRecord,
+// G4, F8: why a call is refused, with its number. From 300 to 308 the names are those of the source's `PathError`, below those of its
+// status codes.
+#[derive(Clone, Copy, PartialEq, Eq)]
+pub enum PathError {
+    InvalidLength = 2,
+    InvalidShape = 3,
+    InvalidArgument = 4,
+    InvalidDimension = 300,
+    InvalidRange = 301,
+    InvalidOrder = 302,
+    DimensionMismatch = 303,
+    NotEnoughWaypoints = 304,
+    OutOfRangeS = 305,
+    UnsupportedDerivativeOrder = 308,
+    InvalidSheet = 600,
+    SheetTooDeep = 601,
 }
 
-// F3, F8, Q11: a lookup's answer: a segment with its tau, or the s that was refused.
-#[derive(Clone, Copy)]
-pub enum Lookup {
-    At { segment: usize, tau: SegmentUnits },
-    OutOfRange(PathParam),
+impl From<PathError> for u32 {
+    ghost use Rattle.rules.specs.Questions.{number_of};
+
+    ghost from_gives = { λ error number. number ≡ number_of error };
+
+    fn from(error: PathError) -> u32 {
+        error as u32
+    }
 }
 
-// F8, M8: a master check's answer. No is not a refusal.
+// F3: a segment, and how far into it.
 #[derive(Clone, Copy)]
-pub enum MasterAnswer {
-    Yes,
-    No,
-    Refused(u32),
+pub struct SegmentTau {
+    pub segment: usize,
+    pub tau: SegmentUnits,
 }
 
-// J12: a refusal's number and byte place, or 0 and the sheet's length.
+// F8, Q11: the s that a lookup refused.
 #[derive(Clone, Copy)]
-pub struct SheetPlace {
-    pub number: u32,
+pub struct OutOfRange(pub PathParam);
+
+impl From<OutOfRange> for PathError {
+    ghost use Rattle.rules.specs.declared.PathError.TheVariants.{OutOfRangeS};
+
+    ghost from_gives = { λ _ error. error ≡ OutOfRangeS };
+
+    fn from(_s: OutOfRange) -> PathError {
+        PathError::OutOfRangeS
+    }
+}
+
+// J12: why a sheet is refused, and the byte place.
+#[derive(Clone, Copy)]
+pub struct SheetError {
+    pub cause: PathError,
     pub at: usize,
-}
-
-// J12, J13: the same, with the record of the path that was built from the sheet.
-#[derive(Clone, Copy)]
-pub struct SheetAnswer {
-    pub number: u32,
-    pub at: usize,
-    pub path: PathRecord,
-}
-
-// How many bytes of output were written, or the number of a refusal.
-#[derive(Clone, Copy)]
-pub struct SheetPrinted {
-    pub number: u32,
-    pub count: usize,
 }
 
 // N2: what is kept of a number on a sheet that is read in pieces: the place where it began and the next one, the size of its digits,
