@@ -1,6 +1,5 @@
 -- Laws of repeated lists and of what is written. Assumes nothing.
-use Prim.{Unit, tt}
-use mathlib.Core.Path.{◌≡◌, refl, sym, ap, ap₂, subst, ◌∙◌}
+use mathlib.Core.Path.{◌≡◌, refl, sym, ap, ap₂, ◌∙◌}
 use mathlib.Core.Bool.{Bool, true, false}
 use mathlib.Core.List.{List, [], ◌∷◌, ◌++◌, append_assoc, append-nil}
 use Prim.Native.Nat.{ℕ, zero, suc, ◌+◌, ◌-◌, ◌*◌, ◌<◌, ◌≤◌, min}
@@ -101,6 +100,10 @@ filled out at end n j = (take at out ++ take (j - at) (times n (block out at end
 module _ (out : List ℤ) (at end n : ℕ) (h : at ≤ end) (k : end ≤ length out) (p : 1 ≤ n) where
   length-block : length (block out at end) ≡ end - at
   length-block = length-take-le (end - at) (drop at out) (omega (arith, length-drop at out))
+
+  -- the first of the blocks is inside
+  pub end_inside : end ≤ min (length out) (at + n * (end - at))
+  end_inside = let size : end - at ≤ end - at = omega arith in omega (arith, mul-le-mul p size)
 
   all : length (times n (block out at end)) ≡ n * (end - at)
   all = length-times n (block out at end) ∙ ap (λ x. n * x) length-block

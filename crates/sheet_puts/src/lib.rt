@@ -19,12 +19,6 @@ pub fn push(out: &mut [i64], at: usize, z: i64) -> usize
     at
 }
 
-fn lesser(a: usize, b: usize) -> usize
-    ensures { result ≡ min a b }
-{
-    if a < b { a } else { b }
-}
-
 // J5: the numbers from `at` to `end`, which were just written, n times over: copied, as far as there is room, and never read again.
 pub fn repeat(out: &mut [i64], at: usize, end: usize, n: usize) -> usize
     requires { (at ≤ end) × (end ≤ length out.old) × (1 ≤ n) × (n ≤ 64) × (length out.old ≤ 258) }
@@ -33,11 +27,9 @@ pub fn repeat(out: &mut [i64], at: usize, end: usize, n: usize) -> usize
 {
     let size = end - at;
     let all = at + n * size;
-    let stop = lesser(out.len(), all);
-    let mut j = end;
-    while j < stop {
+    let stop = out.len().min(all);
+    for j in end..stop {
         out[j] = out[j - size];
-        j += 1;
     }
     stop
 }
