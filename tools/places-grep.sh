@@ -7,7 +7,7 @@
 # 1: own enums, numbers of refusals, kinds as numbers and bools. 2: functions and constants whose name stands twice or more.
 # 3: loops, and ranges counted by `for`. 4: names of conversions, orders, copies and printing, and tests of floats.
 # 5: facts in brackets that stand word for word in three lines or more. 6: lengths among parameters and fields, slices of usize, and two
-# slices with one index in a line. 7: calls right below an `if` or an `else`, and calls as arms of a match.
+# slices with one index in a line. 7: calls right below an `if` or an `else`; arms of a match are not looked at.
 export LC_ALL=C.UTF-8
 table=no
 [ "$1" = --table ] && table=yes && shift
