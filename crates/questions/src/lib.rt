@@ -1,36 +1,29 @@
-// What the questions before a build, before a query and before a check share: the order and the number of points, finite numbers,
+// What the questions before a build, before a query and before a check share: the order and the number of points, how many axes,
 // and the range with its quotient.
 #![tactic(auto)]
 
 ghost use Rattle.std.specs.Prelude.{◌≡◌, ◌≤◌};
 ghost use Rattle.rules.specs.Floats.{finite};
-ghost use Rattle.rules.specs.Questions.{first_no};
-ghost use Rattle.rules.specs.Build.{valid_order, valid_range, inv_ds_of};
+ghost use Rattle.rules.specs.Questions.{first_no, number_answered};
+ghost use Rattle.rules.specs.Build.{valid_order, valid_axes, valid_range, inv_ds_of};
 ghost use Rattle.rules.specs.Master.{size_questions};
 
-use rules::PathParam;
+use rules::{PathError, PathParam};
 
-// The number is neither NaN nor an infinity: x − x is 0 for every other.
+// The number is neither NaN nor an infinity.
+#[tactic(auto, using(crate::proofs::Finite::finite_is))]
 pub fn is_finite(x: f64) -> bool
     ensures { result ≡ finite x }
 {
-    x - x == 0.0
+    x.is_finite()
 }
 
-// B1: the order between 3 and 7.
-const QUINTIC: usize = 5;
-
 // B1, Q1, M1: is the order 3, 5 or 7?
+#[tactic(auto, unfolding(rules::specs::Build::valid_order))]
 pub fn valid_order(order: usize) -> bool
     ensures { result ≡ valid_order order }
 {
-    if order == 3 {
-        return true;
-    }
-    if order == QUINTIC {
-        return true;
-    }
-    order == 7
+    matches!(order, 3 | 5 | 7)
 }
 
 // B2: "Are there at least 2 points?"
@@ -39,23 +32,36 @@ const LEAST_POINTS: usize = 2;
 // B3: "At most 257?"
 const MOST_POINTS: usize = 257;
 
-// What a build and a check ask first: the number of the first no, and 0 where all say yes.
-pub fn size_questions(order: usize, points: usize) -> u32
-    ensures { result ≡ first_no (size_questions order points) }
+// What a build and a check ask first: the first no is the refusal.
+#[tactic(auto, unfolding(rules::specs::Questions::first_no, rules::specs::Master::size_questions))]
+pub fn size_questions(order: usize, points: usize) -> Result<(), PathError>
+    ensures { number_answered result ≡ first_no (size_questions order points) }
 {
     if !valid_order(order) {
-        return 302; // B1, M1
+        return Err(PathError::InvalidOrder); // B1, M1
     }
     if points < LEAST_POINTS {
-        return 304; // B2, M2
+        return Err(PathError::NotEnoughWaypoints); // B2, M2
     }
     if MOST_POINTS < points {
-        return 2; // B3, M3
+        return Err(PathError::InvalidLength); // B3, M3
     }
-    0 // every question says yes
+    Ok(())
+}
+
+// B4: "1 to 8 axes?"
+const MOST_AXES: usize = 8;
+
+// B4, Q4: are there 1 to 8 axes?
+#[tactic(auto, unfolding(rules::specs::Build::valid_axes))]
+pub fn valid_axes(axes: usize) -> bool
+    ensures { result ≡ valid_axes axes }
+{
+    0 < axes && axes <= MOST_AXES
 }
 
 // B8, Q6: inv_ds, how many segments come to a unit of s.
+#[tactic(auto, unfolding(rules::specs::Build::inv_ds_of))]
 pub fn inv_ds(segments: usize, s_min: PathParam, s_max: PathParam) -> f64
     requires { segments ≤ 256 }
     ensures { result ≡ inv_ds_of segments s_min s_max }
@@ -71,8 +77,5 @@ pub fn valid_range(segments: usize, s_min: PathParam, s_max: PathParam) -> bool
     ensures { result ≡ valid_range segments s_min s_max }
 {
     let inv = inv_ds(segments, s_min, s_max);
-    if !is_finite(inv) {
-        return false;
-    }
-    0.0 < inv
+    is_finite(inv) && 0.0 < inv
 }
