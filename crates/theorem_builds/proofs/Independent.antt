@@ -2,10 +2,10 @@
 use mathlib.Core.Path.{◌≡◌, refl, sym, ap, ◌∙◌}
 use mathlib.Core.Bool.{Bool, cond}
 use mathlib.Core.List.{List}
+use Rattle.std.specs.Prelude.{Option, Some, None}
 use Prim.Native.Nat.{ℕ, ◌+◌, ◌*◌, ◌<◌}
 use lib.Ieee.{Float}
 use Rattle.rules.specs.declared.BoundaryState.{BoundaryState}
-use Rattle.rules.specs.declared.BoundaryState.TheVariants.{None, Given}
 use Rattle.rules.specs.Floats.{◌!◌}
 use Rattle.law_lists.specs.Lists.{listed}
 use Rattle.rules.specs.Tables.{m_of}
@@ -18,11 +18,11 @@ use Rattle.theorem_builds.proofs.AxisPart.{coefficients_of, part_is}
 abbrev pub used : Float → Bool → Float → ℕ → Float
 used inv mark x r = cond mark (divided (r + 1) x inv) x
 
-pub boundary_is : (axes : ℕ) (inv : Float) (state : BoundaryState) (numbers : List Float) (axis r : ℕ)
+pub boundary_is : (axes : ℕ) (inv : Float) (state : Option BoundaryState) (numbers : List Float) (axis r : ℕ)
     → boundary_number axes inv state numbers axis r ≡ used inv (marked state) (given_number axes state numbers axis r) r
 unfolding boundary_number marked given_number
 boundary_is axes inv None numbers axis r = refl
-boundary_is axes inv (Given rows columns perUnit) numbers axis r = refl
+boundary_is axes inv (Some state) numbers axis r = refl
 
 module _ (b b' : BuildInput) (axis axis' : ℕ) (a : Alike b b' axis axis') where
   same_waypoints : axis_waypoints b axis ≡ axis_waypoints b' axis'
@@ -34,7 +34,7 @@ module _ (b b' : BuildInput) (axis axis' : ℕ) (a : Alike b b' axis axis') wher
   same_inverse = rw (a.points, a.low, a.high)
 
   -- of the start states or of the end states
-  same_state : (state state' : BoundaryState) (numbers numbers' : List Float) → marked state ≡ marked state'
+  same_state : (state state' : Option BoundaryState) (numbers numbers' : List Float) → marked state ≡ marked state'
       → ((r : ℕ) → r < m_of b.config.order → given_number b.axes state numbers axis r ≡ given_number b'.axes state' numbers' axis' r)
       → axis_state b state numbers axis ≡ axis_state b' state' numbers' axis'
   unfolding axis_state

@@ -2,8 +2,7 @@
 use mathlib.Core.Path.{sym, ap, ◌∙◌}
 use mathlib.Core.Bool.{cond}
 use lib.Dec.{eqb}
-use Rattle.rules.specs.declared.BuildAnswer.{BuildAnswer}
-use Rattle.rules.specs.Build.{build_answer, table, buffer_after}
+use Rattle.rules.specs.Build.{BuildAnswer, build_answer, table, buffer_after}
 use Rattle.theorem_builds.specs.Previews.{PreviewIsTheBuild}
 
 pub preview_is_the_build : PreviewIsTheBuild

@@ -1,22 +1,21 @@
 -- Axes are independent, as document 01 has it: "Two accepted builds of the same order and point count, with state marks and range alike, that agree bit for
 -- bit on an axis's waypoints and states give that axis the same coefficients." It holds between any axis of the one build and any axis of the other, however
 -- many axes each has. Proved by `axes_are_independent` of proofs/Independent.antt. Assumes nothing.
-use Rattle.std.specs.Prelude.{◌≡◌, Bool, false, List, ℕ, ◌+◌, ◌*◌, ◌-◌, ◌<◌, take, drop, Float}
+use Rattle.std.specs.Prelude.{◌≡◌, Bool, false, List, Option, Some, None, ℕ, ◌+◌, ◌*◌, ◌-◌, ◌<◌, take, drop, Float}
 use Rattle.rules.specs.declared.BoundaryState.{BoundaryState}
-use Rattle.rules.specs.declared.BoundaryState.TheVariants.{None, Given}
 use Rattle.rules.specs.Floats.{◌!◌, +0}
 use Rattle.rules.specs.Tables.{m_of}
 use Rattle.rules.specs.Build.{BuildInput, build_number, table}
 
 -- "a state may be marked per unit of s": one that is none is not
-unfoldable pub marked : BoundaryState → Bool
+unfoldable pub marked : Option BoundaryState → Bool
 marked None = false
-marked (Given rows columns perUnit) = perUnit
+marked (Some state) = state.per_unit_of_s
 
 -- Number r of an axis's state as it is given, before any division. "A state is none (all zero)"
-unfoldable pub given_number : ℕ → BoundaryState → List Float → ℕ → ℕ → Float
+unfoldable pub given_number : ℕ → Option BoundaryState → List Float → ℕ → ℕ → Float
 given_number axes None numbers axis r = +0
-given_number axes (Given rows columns perUnit) numbers axis r = numbers ! (r * axes + axis)
+given_number axes (Some state) numbers axis r = numbers ! (r * axes + axis)
 
 -- An axis's part of the buffer, which "holds the coefficients, by axis, then segment, then power": segments × (order + 1) cells
 unfoldable pub axis_part : BuildInput → ℕ → List Float

@@ -3,8 +3,7 @@
 -- `preview_is_the_build` of proofs/Previews.antt; `preview_then_build` of crates/build_previewed makes the two calls, so that what is supposed of them
 -- here is what their contracts promise. Assumes nothing.
 use Rattle.std.specs.Prelude.{◌≡◌, cond, List, ℕ, eqb, length, Float}
-use Rattle.rules.specs.declared.BuildAnswer.{BuildAnswer}
-use Rattle.rules.specs.Build.{BuildInput, build_answer, table, buffer_after}
+use Rattle.rules.specs.Build.{BuildInput, BuildAnswer, build_answer, table, buffer_after}
 
 -- what the contract of `preview` promises of its answer, whatever the length is
 abbrev pub Previewed : BuildInput → ℕ → BuildAnswer → Type 0

@@ -1,8 +1,9 @@
 -- A set to which the check says yes evaluates to its waypoints and states: what the check's equations say of a segment's coefficients is what the evaluation
 -- finds at tau 0 and tau 1. Assumes nothing.
 use mathlib.Core.Path.{◌≡◌, refl, sym, ap, ap₂, ◌∙◌, subst}
-use mathlib.Core.Bool.{Bool, cond, ◌&&◌}
+use mathlib.Core.Bool.{Bool, true, cond, ◌&&◌}
 use mathlib.Core.List.{List}
+use Rattle.std.specs.Prelude.{Ok, Err}
 use Prim.Native.Nat.{ℕ, zero, suc, ◌+◌, ◌-◌, ◌*◌, ◌<◌, ◌≤◌}
 use native.Mathlib.Nat.{one-mul}
 use native.Mathlib.Omega.{arith}
@@ -14,7 +15,7 @@ use lib.Ieee.Bits.{is_true}
 use lib.Ieee.Fits.{and_i, and_r}
 use Rattle.law_integers.proofs.Laws.{one-*ℤ, *ℤ-assoc}
 use Rattle.law_rounding.specs.Whole.{is_whole}
-use Rattle.rules.specs.declared.MasterAnswer.TheVariants.{Yes, Refused}
+use Rattle.rules.specs.declared.PathError.TheVariants.{InvalidArgument}
 use Rattle.rules.specs.Floats.{◌!◌, +0, +1}
 use Rattle.law_lists.specs.Lists.{all}
 use Rattle.rules.specs.Tables.{m_of}
@@ -125,7 +126,7 @@ module _ (b : BuildInput) (cells axis : ℕ) (accepted : build_number b cells �
   unfolding master_says
   two_points_checked =
       subst (λ (says : MasterSays). T says.good)
-      (sym (exact.check ∙ ap (λ (t : Bool). master_says (cond t Yes (Refused 4))) (is_true (all within (axis_set b axis).table) small))) tt
+      (sym (exact.check ∙ ap (λ (t : Bool). master_says (cond t (Ok true) (Err InvalidArgument))) (is_true (all within (axis_set b axis).table) small))) tt
 
   one_segment : 0 < segments (axis_set b axis)
   unfolding axis_set axis_waypoints

@@ -2,6 +2,7 @@
 use mathlib.Core.Path.{◌≡◌, refl, sym, ap, ap₂, ◌∙◌, subst₂}
 use mathlib.Core.Bool.{Bool, true, false, not, cond, ◌&&◌}
 use mathlib.Core.List.{List, [], ◌∷◌, map}
+use Rattle.std.specs.Prelude.{Option, Some, None, Ok, Err}
 use Prim.Native.Nat.{ℕ, zero, suc, ◌+◌, ◌-◌, ◌*◌, ◌<◌}
 use native.Mathlib.Nat.{one-mul, zero-mul, not-suc-le-zero}
 use native.Mathlib.Omega.{arith}
@@ -15,8 +16,7 @@ use lib.Ieee.Fits.{and_l, and_r}
 use Rattle.law_rounding.specs.Whole.{is_whole, whole_of}
 use Rattle.law_rounding.proofs.Whole.{HasWhole, whole_test, whole_number}
 use Rattle.rules.specs.declared.BoundaryState.{BoundaryState}
-use Rattle.rules.specs.declared.BoundaryState.TheVariants.{None, Given}
-use Rattle.rules.specs.declared.MasterAnswer.TheVariants.{Yes, Refused}
+use Rattle.rules.specs.declared.PathError.TheVariants.{InvalidArgument}
 use Rattle.rules.specs.Floats.{◌⊖◌, ◌!◌, +0}
 use Rattle.law_lists.specs.Lists.{all, every, listed, joined}
 use Rattle.rules.specs.Questions.{ask, first_no}
@@ -72,7 +72,7 @@ asked false = refl
 abbrev answering : ℕ → Bool → MasterSays
 answering n met = record { refused = not (eqb n 0); number = n; good = eqb n 0 && met && true }
 
-says : (t : Bool) → answering (cond t 0 4) true ≡ master_says (cond t Yes (Refused 4))
+says : (t : Bool) → answering (cond t 0 4) true ≡ master_says (cond t (Ok true) (Err InvalidArgument))
 unfolding master_says
 says true = refl
 says false = refl
@@ -144,7 +144,7 @@ module _ (order : ℕ) (u v : Float) (left right : List Float) where
           all_within right tr,
         ) (asked (all within set.table))
 
-    check : check_master set ≡ master_says (cond (all within set.table) Yes (Refused 4))
+    check : check_master set ≡ master_says (cond (all within set.table) (Ok true) (Err InvalidArgument))
     unfolding check_master joint_equations meets_joints every
     check = ap₂ answering number (is_true (endpoint_equations set) endpoints) ∙ says (all within set.table)
 
@@ -154,11 +154,11 @@ module _ (order : ℕ) (u v : Float) (left right : List Float) where
 -- ---- an axis of a build
 
 -- a number of a state of whole numbers
-number_within : (axes : ℕ) (state : BoundaryState) (numbers : List Float) (axis r : ℕ) → T (whole_state state numbers)
+number_within : (axes : ℕ) (state : Option BoundaryState) (numbers : List Float) (axis r : ℕ) → T (whole_state state numbers)
     → T (whole_within (given_number axes state numbers axis r))
 unfolding whole_state given_number
 number_within axes None numbers axis r t = zero_within
-number_within axes (Given rows columns perUnit) numbers axis r t = all_at whole_within numbers +0 zero_within t (r * axes + axis)
+number_within axes (Some state) numbers axis r t = all_at whole_within numbers +0 zero_within t (r * axes + axis)
 
 module _ (b : BuildInput) (cells axis : ℕ) (accepted : build_number b cells ≡ 0) (w : WholeTwoPoints b) (inside : axis < b.axes) where
   abbrev start : List Float
@@ -170,7 +170,7 @@ module _ (b : BuildInput) (cells axis : ℕ) (accepted : build_number b cells �
   abbrev waypoint : ℕ → Float
   waypoint p = b.waypoints ! (p * b.axes + axis)
 
-  module _ (state : BoundaryState) (numbers : List Float) where
+  module _ (state : Option BoundaryState) (numbers : List Float) where
     length_given : length (given_state b state numbers axis) ≡ m_of b.config.order
     unfolding given_state
     length_given = length-listed _ _

@@ -2,11 +2,10 @@
 -- build from unmarked states is exact: every axis meets the endpoint equations below. The check says yes to each axis whose coefficients are within ±2^40 too;
 -- otherwise it gives 4." For the orders 3, 5 and 7, and any number of axes that a build takes. Proved by `two_points_are_exact` of proofs/Exact.antt.
 -- Assumes nothing.
-use Rattle.std.specs.Prelude.{◌≡◌, Bool, true, false, cond, ◌&&◌, List, map, ℕ, ◌<◌, T, Float}
+use Rattle.std.specs.Prelude.{◌≡◌, Bool, true, false, cond, ◌&&◌, List, map, Option, Some, None, Ok, Err, ℕ, ◌<◌, T, Float}
 use Rattle.law_rounding.specs.Whole.{is_whole, whole_of}
 use Rattle.rules.specs.declared.BoundaryState.{BoundaryState}
-use Rattle.rules.specs.declared.BoundaryState.TheVariants.{None, Given}
-use Rattle.rules.specs.declared.MasterAnswer.TheVariants.{Yes, Refused}
+use Rattle.rules.specs.declared.PathError.TheVariants.{InvalidArgument}
 use Rattle.law_lists.specs.Lists.{all, listed}
 use Rattle.rules.specs.Tables.{m_of}
 use Rattle.rules.specs.Build.{BuildInput, build_number, axis_waypoints}
@@ -18,9 +17,9 @@ unfoldable pub whole_within : Float → Bool
 whole_within x = is_whole x && within (whole_of x)
 
 -- "given states included"
-unfoldable pub whole_state : BoundaryState → List Float → Bool
+unfoldable pub whole_state : Option BoundaryState → List Float → Bool
 whole_state None numbers = true
-whole_state (Given rows columns perUnit) numbers = all whole_within numbers
+whole_state (Some state) numbers = all whole_within numbers
 
 -- "two points whose numbers, given states included, are whole and within 2^40", from "unmarked states"
 pub record WholeTwoPoints (b : BuildInput) : Type 0 where
@@ -32,7 +31,7 @@ pub record WholeTwoPoints (b : BuildInput) : Type 0 where
   pub end_unmarked : marked b.config.end_state ≡ false
 
 -- an axis's m numbers of a state as they are given
-unfoldable pub given_state : BuildInput → BoundaryState → List Float → ℕ → List Float
+unfoldable pub given_state : BuildInput → Option BoundaryState → List Float → ℕ → List Float
 given_state b state numbers axis = listed (m_of b.config.order) (given_number b.axes state numbers axis)
 
 -- An axis of a build as a set for the check: its waypoints and states as they are given, and its part of the buffer, all as whole numbers.
@@ -53,7 +52,7 @@ pub record Exact (part : List Float) (s : MasterSet) : Type 0 where
   pub endpoints : T (endpoint_equations s)
   pub equations : Equations s
   -- "The check says yes to each axis whose coefficients are within ±2^40 too; otherwise it gives 4."
-  pub check : check_master s ≡ master_says (cond (all within s.table) Yes (Refused 4))
+  pub check : check_master s ≡ master_says (cond (all within s.table) (Ok true) (Err InvalidArgument))
 
 -- D2b, R32, R33: the theorem: a build, accepted into a buffer of so many cells
 unfoldable pub TwoPointsAreExact : Type 0
