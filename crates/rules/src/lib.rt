@@ -122,7 +122,7 @@ pub struct SheetError {
 // how far it is and whether a minus was read. These are numbers alone, so a caller can hand over one that no reading makes; what
 // becomes of it is in specs/SheetNumbers.antt.
 #[repr(C)]
-#[derive(Clone, Copy)]
+#[derive(Clone, Copy, PartialEq, Eq)]
 pub struct NumberReading {
     pub start: usize,
     pub next: usize,
