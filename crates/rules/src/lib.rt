@@ -3,6 +3,7 @@
 #![tactic(auto)]
 
 ghost use Rattle.std.specs.Prelude.{◌≡◌};
+ghost use Rattle.rules.specs.Questions.{number_answered};
 
 // F1: a position along s: the source's path parameter.
 #[derive(Clone, Copy)]
@@ -87,6 +88,16 @@ impl From<PathError> for u32 {
 
     fn from(error: PathError) -> u32 {
         error as u32
+    }
+}
+
+// F11: the number that an answer stands for: 0 where the call is served, else the refusal's.
+pub fn number_answered<T: Copy>(answer: Result<T, PathError>) -> u32
+    ensures { result ≡ number_answered answer }
+{
+    match answer {
+        Ok(_) => 0,
+        Err(error) => u32::from(error),
     }
 }
 
