@@ -2,30 +2,28 @@
 #![tactic(auto)]
 
 ghost use Rattle.std.specs.Prelude.{◌≡◌};
-ghost use Rattle.rules.specs.Questions.{first_no};
+ghost use Rattle.rules.specs.Questions.{first_no, number_answered};
 ghost use Rattle.build_shape.specs.Shape.{shape_questions};
 
-use questions::size_questions;
+use questions::{size_questions, valid_axes};
+use rules::PathError;
 
-// B4: "1 to 8 axes?"
-const MOST_AXES: usize = 8;
-
-// The number of the first no, and 0 where all five say yes, of a waypoint list of so many numbers.
-pub fn shape_questions(order: usize, points: usize, axes: usize, numbers: usize) -> u32
-    ensures { result ≡ first_no (shape_questions order points axes numbers) }
+// The first no of the five is the refusal, of a waypoint list of so many numbers.
+#[tactic(auto, unfolding(crate::specs::Shape::shape_questions))]
+pub fn shape_questions(
+    order: usize,
+    points: usize,
+    axes: usize,
+    numbers: usize,
+) -> Result<(), PathError>
+    ensures { number_answered result ≡ first_no (shape_questions order points axes numbers) }
 {
-    let number = size_questions(order, points);
-    if number != 0 {
-        return number; // B1, B2, B3
-    }
-    if axes < 1 {
-        return 300; // B4: too few
-    }
-    if MOST_AXES < axes {
-        return 300; // B4: too many
+    size_questions(order, points)?; // B1, B2, B3
+    if !valid_axes(axes) {
+        return Err(PathError::InvalidDimension); // B4
     }
     if numbers != axes * points {
-        return 3; // B5
+        return Err(PathError::InvalidShape); // B5
     }
-    0 // every question says yes
+    Ok(())
 }
