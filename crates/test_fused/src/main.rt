@@ -5,53 +5,24 @@
 
 use std::io;
 use std::io::Read;
-use test_common::seen;
-use test_common::seen::Seen;
-use test_input::read;
-use test_input::read::Name;
+use test_common::seen::{Trial, replay};
+use test_input::bits;
 
-fn next_result<R: Read>(reader: &mut R) -> f64 {
-    fused::mul_add(read::cell(reader), read::cell(reader), read::cell(reader))
+fn step<R: Read + Drop>(trial: &mut Trial<R>) {
+    let a = trial.input.cell();
+    let b = trial.input.cell();
+    let c = trial.input.cell();
+    let result = fused::mul_add(a, b, c);
+    let expected = trial.input.cell();
+    trial.called(bits::same(result, expected));
 }
 
-fn family<R: Read>(reader: &mut R, seen: Seen, n: usize) -> Seen {
-    let mut seen = seen;
-    for _ in 0..n {
-        let result = next_result(reader);
-        seen = seen::computed(reader, seen, result);
+fn family<R: Read + Drop>(trial: &mut Trial<R>) {
+    for _ in 0..trial.input.count() {
+        step(trial);
     }
-    seen
-}
-
-fn next<R: Read, P: Print>(
-    reader: &mut R,
-    printer: &P,
-    seen: Seen,
-    name: Name,
-) -> io::Result<Seen> {
-    if name.is_remark {
-        return Ok(seen);
-    }
-    let n = read::count(reader);
-    seen::named(printer, seen, family(reader, seen, n), name)
-}
-
-// A proved loop has to end, and nothing says that the input does. So it ends at a number of lines that the input does
-// not reach.
-fn replay<R: Read, P: Print>(reader: &mut R, printer: &P) -> io::Result<Seen> {
-    let mut seen = seen::nothing();
-    for _ in 0..100000u32 {
-        let name = read::next_name(reader);
-        if name.length != 68 {
-            return Ok(seen::ended(seen, name));
-        }
-        seen = next(reader, printer, seen, name)?;
-    }
-    Ok(seen)
 }
 
 fn main(rt: HostRuntime) -> io::Result<()> {
-    let mut reader = rt.stdin();
-    let seen = replay(&mut reader, &rt)?;
-    seen::report(&rt, seen)
+    replay(&rt, rt.stdin(), |trial| family(trial))
 }

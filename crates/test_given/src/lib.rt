@@ -2,84 +2,110 @@
 // and record beside those that stand behind it. The first lines of crates/test_build/stdin say how a call is written.
 #![tactic(auto)]
 
-ghost use Rattle.std.specs.Prelude.{◌≤◌};
-
-use rules::{BoundaryState, BuildAnswer, OutOfRangeMode, PathParam, SplineConfig};
+use rules::{
+    BoundaryState, OutOfRangeMode, PathError, PathParam, PathRecord, SplineConfig, SplineInput,
+};
 use std::io::Read;
 use test_common::seen;
-use test_common::seen::Seen;
-use test_input::read;
+use test_common::seen::Trial;
+use test_input::read::Input;
 
 // Kinds: 0 none, 1 given, 2 given per unit of s.
-fn next_state<R: Read>(reader: &mut R) -> BoundaryState {
-    let kind = read::count(reader);
-    let rows = read::count(reader);
-    let columns = read::count(reader);
+fn next_state<R: Read + Drop>(input: &mut Input<R>) -> Option<BoundaryState> {
+    let kind = input.count();
+    let rows = input.count();
+    let columns = input.count();
     if kind == 0 {
-        return BoundaryState::None;
+        return None;
     }
-    BoundaryState::Given {
+    Some(BoundaryState {
         rows,
         columns,
         per_unit_of_s: kind == 2,
-    }
+    })
 }
 
-pub fn next_config<R: Read>(reader: &mut R) -> SplineConfig {
+fn next_config<R: Read + Drop>(input: &mut Input<R>) -> SplineConfig {
     SplineConfig {
-        order: read::count(reader),
-        s_min: PathParam(read::float(reader)),
-        s_max: PathParam(read::float(reader)),
-        out_of_range_mode: read::mode(reader),
-        start_state: next_state(reader),
-        end_state: next_state(reader),
+        order: input.count(),
+        s_min: PathParam(input.float()),
+        s_max: PathParam(input.float()),
+        out_of_range_mode: input.mode(),
+        start_state: next_state(input),
+        end_state: next_state(input),
     }
 }
 
-// Where waypoints, start and end lie in one list, one behind the other: the start's numbers begin at `start`, the end's at `end`, and
-// behind `past` is nothing.
+// What a call is given, but for the numbers of its lists: how many each has.
 #[derive(Clone, Copy)]
-pub struct Lists {
-    pub start: usize,
-    pub end: usize,
-    pub past: usize,
+pub struct Given {
+    config: SplineConfig,
+    points: usize,
+    axes: usize,
+    waypoints: usize,
+    start: usize,
+    end: usize,
 }
 
 // There is room for 2336 waypoints and for 32 numbers of a state. What is more is cut off.
-pub fn next_lists<R: Read>(reader: &mut R) -> Lists {
-    let start = read::least(read::count(reader), 2336);
-    let end = start + read::least(read::count(reader), 32);
-    let past = end + read::least(read::count(reader), 32);
-    Lists { start, end, past }
-}
-
-// The same, where the list has so many numbers. (Nothing is cut off, but the prover does not know.)
-pub fn within(lists: Lists, all: usize) -> Lists
-    ensures { (result.start ≤ result.end) × (result.end ≤ result.past) × (result.past ≤ all) }
-{
-    let past = read::least(lists.past, all);
-    let end = read::least(lists.end, past);
-    let start = read::least(lists.start, end);
-    Lists { start, end, past }
-}
-
-fn mode_number(mode: OutOfRangeMode) -> usize {
-    match mode {
-        OutOfRangeMode::Error => 0,
-        OutOfRangeMode::Clamp => 1,
+pub fn next<R: Read + Drop>(input: &mut Input<R>) -> Given {
+    Given {
+        config: next_config(input),
+        points: input.count(),
+        axes: input.count(),
+        waypoints: input.count().min(2336),
+        start: input.count().min(32),
+        end: input.count().min(32),
     }
 }
 
+impl Given {
+    // How many numbers the three lists have together.
+    pub fn count(&self) -> usize {
+        self.waypoints
+            .saturating_add(self.start)
+            .saturating_add(self.end)
+    }
+
+    // With the numbers: waypoints, start and end, one behind the other.
+    pub fn with<'a>(&self, numbers: &'a [f64]) -> SplineInput<'a> {
+        let (waypoints, rest) = numbers.split_at(self.waypoints.min(numbers.len()));
+        let (start, rest) = rest.split_at(self.start.min(rest.len()));
+        let end = &rest[..self.end.min(rest.len())];
+        SplineInput {
+            config: self.config,
+            points: self.points,
+            axes: self.axes,
+            waypoints,
+            start,
+            end,
+        }
+    }
+}
+
+// What stands in the place of a path's record where there is none.
+const NO_PATH: PathRecord = PathRecord {
+    order: 0,
+    segments: 0,
+    axes: 0,
+    s_min: PathParam(0.0),
+    s_max: PathParam(0.0),
+    inv_ds: 0.0,
+    mode: OutOfRangeMode::Error,
+};
+
 // A call more, its number and its record.
-pub fn answered<R: Read>(reader: &mut R, seen: Seen, answer: BuildAnswer) -> Seen {
-    let path = answer.path;
-    let mode = path.mode;
-    let seen = seen::answered(seen, answer.number, read::count(reader));
-    let seen = seen::whole(reader, seen, path.order);
-    let seen = seen::whole(reader, seen, path.segments);
-    let seen = seen::whole(reader, seen, path.axes);
-    let seen = seen::float(reader, seen, path.s_min.0);
-    let seen = seen::float(reader, seen, path.s_max.0);
-    let seen = seen::float(reader, seen, path.inv_ds);
-    seen::whole(reader, seen, mode_number(mode))
+pub fn answered<R: Read + Drop>(trial: &mut Trial<R>, answer: Result<PathRecord, PathError>) {
+    let path = answer.unwrap_or(NO_PATH);
+    trial.answered(seen::number(answer));
+    trial.whole(path.order);
+    trial.whole(path.segments);
+    trial.whole(path.axes);
+    trial.float(path.s_min.0);
+    trial.float(path.s_max.0);
+    trial.float(path.inv_ds);
+    trial.whole(match path.mode {
+        OutOfRangeMode::Error => 0,
+        OutOfRangeMode::Clamp => 1,
+    });
 }

@@ -12,17 +12,19 @@ fn is_nan(bits: u64) -> bool
 // Every NaN's bits are read as the one NaN.
 pub fn float(bits: u64) -> f64 {
     if is_nan(bits) {
-        return 0.0 / 0.0;
+        f64::NAN
+    } else {
+        f64::from_bits(bits)
     }
-    f64::from_bits(bits)
 }
 
 // Every NaN has the bits of the one that is written 7ff8000000000000.
 pub fn bits_of(x: f64) -> u64 {
-    if x != x {
-        return 0x7ff8_0000_0000_0000;
+    if x.is_nan() {
+        0x7ff8_0000_0000_0000
+    } else {
+        x.to_bits()
     }
-    f64::to_bits(x)
 }
 
 pub fn same(x: f64, y: f64) -> bool {

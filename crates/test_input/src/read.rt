@@ -10,13 +10,6 @@ use crate::bits;
 use rules::OutOfRangeMode;
 use std::io::Read;
 
-pub fn least(a: usize, b: usize) -> usize
-    ensures upper_bound { result ≤ a }
-    ensures upper_bound_2 { result ≤ b }
-{
-    if a < b { a } else { b }
-}
-
 // Reads until a list is full, the input ends or a read fails, and returns how many bytes it put at the list's start.
 pub fn full<R: Read>(reader: &mut R, list: &mut [u8]) -> usize
     ensures { result ≤ length list.new }
@@ -37,22 +30,16 @@ pub fn full<R: Read>(reader: &mut R, list: &mut [u8]) -> usize
 pub struct Name {
     pub text: [u8; 68],
     pub length: usize,
-    pub is_remark: bool,
 }
 
-pub fn next_name<R: Read>(reader: &mut R) -> Name {
-    let mut text = [0u8; 68];
-    let length = full(reader, &mut text);
-    let first = text[0];
-    Name {
-        text,
-        length,
-        is_remark: first == b'#',
+impl Name {
+    pub fn is_remark(&self) -> bool {
+        self.text[0] == b'#'
     }
 }
 
 // A number as it is read.
-#[derive(Clone, Copy)]
+#[derive(Clone, Copy, Default)]
 struct Number {
     magnitude: u64,
     is_negative: bool,
@@ -60,122 +47,125 @@ struct Number {
 
 fn digit(c: u8) -> u64 {
     if c < b'a' {
-        (c % 16) as u64
+        u64::from(c % 16)
     } else {
-        ((c - b'a') % 6 + 10) as u64
+        u64::from((c - b'a') % 6 + 10)
     }
 }
 
-fn with_digit(n: u64, c: u8, decimal: bool) -> u64 {
-    if decimal {
-        return std::num::wrapping_add_u64(n % 1844674407370955162 * 10, digit(c));
+impl Number {
+    // What stands below '0', as a space and a minus do, is no digit.
+    fn with<const RADIX: u64>(self, c: u8) -> Number {
+        if c < b'0' {
+            return Number {
+                magnitude: self.magnitude,
+                is_negative: c == b'-',
+            };
+        }
+        Number {
+            magnitude: self.magnitude.wrapping_mul(RADIX).wrapping_add(digit(c)),
+            is_negative: self.is_negative,
+        }
     }
-    n % 0x1000_0000_0000_0000 * 16 + digit(c) % 16
-}
 
-// What stands below '0', as a space and a minus do, is no digit.
-fn with(n: Number, c: u8, decimal: bool) -> Number {
-    if c < b'0' {
-        return Number {
-            magnitude: n.magnitude,
-            is_negative: c == b'-',
-        };
+    // The number whose digits these are.
+    fn of<const RADIX: u64>(digits: &[u8]) -> Number {
+        digits
+            .iter()
+            .fold(Number::default(), |n, &c| n.with::<RADIX>(c))
     }
-    Number {
-        magnitude: with_digit(n.magnitude, c, decimal),
-        is_negative: n.is_negative,
-    }
-}
 
-// The number whose digits stand in a line from a place on, up to another.
-fn digits(line: &[u8], from: usize, to: usize, decimal: bool) -> Number {
-    let mut n = Number {
-        magnitude: 0,
-        is_negative: false,
-    };
-    for i in from..least(to, line.len()) {
-        n = with(n, line[i], decimal);
-    }
-    n
-}
-
-// A field with a whole number.
-pub fn count<R: Read>(reader: &mut R) -> usize {
-    let mut line = [0u8; 34];
-    full(reader, &mut line);
-    digits(&line, 13, 33, true).magnitude as usize
-}
-
-// A field with a float.
-pub fn float<R: Read>(reader: &mut R) -> f64 {
-    let mut line = [0u8; 34];
-    full(reader, &mut line);
-    bits::float(digits(&line, 17, 33, false).magnitude)
-}
-
-// A field with a mode: 0 Error, 1 Clamp.
-pub fn mode<R: Read>(reader: &mut R) -> OutOfRangeMode {
-    if count(reader) == 1 {
-        return OutOfRangeMode::Clamp;
-    }
-    OutOfRangeMode::Error
-}
-
-// The next float of a list.
-pub fn cell<R: Read>(reader: &mut R) -> f64 {
-    let mut line = [0u8; 17];
-    full(reader, &mut line);
-    bits::float(digits(&line, 0, 16, false).magnitude)
-}
-
-// A small number.
-pub fn small<R: Read>(reader: &mut R) -> usize {
-    let mut line = [0u8; 4];
-    full(reader, &mut line);
-    digits(&line, 0, 3, true).magnitude as usize
-}
-
-// So many floats of a list, put at the start of another.
-pub fn floats<R: Read>(reader: &mut R, list: &mut [f64], n: usize) {
-    for i in 0..least(n, list.len()) {
-        list[i] = cell(reader);
+    fn signed(self) -> i64 {
+        let magnitude = self.magnitude.cast_signed();
+        if self.is_negative {
+            magnitude.wrapping_neg()
+        } else {
+            magnitude
+        }
     }
 }
 
-fn next_integer<R: Read>(reader: &mut R) -> Number {
-    let mut line = [0u8; 21];
-    full(reader, &mut line);
-    digits(&line, 0, 20, true)
+// What the programs read from.
+#[derive(Drop)]
+pub struct Input<R: Read + Drop> {
+    pub reader: R,
 }
 
-fn negated(magnitude: u64) -> i64 {
-    let n = (magnitude % 0x8000_0000_0000_0000) as i64;
-    -n
-}
-
-fn signed(n: Number) -> i64 {
-    if !n.is_negative {
-        return (n.magnitude % 0x8000_0000_0000_0000) as i64;
+impl<R: Read + Drop> Input<R> {
+    pub fn name(&mut self) -> Name {
+        let mut text = [0; 68];
+        let length = full(&mut self.reader, &mut text);
+        Name { text, length }
     }
-    if n.magnitude == 0x8000_0000_0000_0000 {
-        return -9223372036854775808;
+
+    // A field with a whole number.
+    pub fn count(&mut self) -> usize {
+        let mut line = [0; 34];
+        full(&mut self.reader, &mut line);
+        Number::of::<10>(&line[13..33]).magnitude as usize
     }
-    negated(n.magnitude)
-}
 
-// The next integer of a list.
-pub fn integer<R: Read>(reader: &mut R) -> i64 {
-    signed(next_integer(reader))
-}
+    // A field with a float.
+    pub fn float(&mut self) -> f64 {
+        let mut line = [0; 34];
+        full(&mut self.reader, &mut line);
+        bits::float(Number::of::<16>(&line[17..33]).magnitude)
+    }
 
-// The same where it is not below 0.
-pub fn natural<R: Read>(reader: &mut R) -> usize {
-    next_integer(reader).magnitude as usize
-}
+    // A field with a mode: 0 Error, 1 Clamp.
+    pub fn mode(&mut self) -> OutOfRangeMode {
+        if self.count() == 1 {
+            OutOfRangeMode::Clamp
+        } else {
+            OutOfRangeMode::Error
+        }
+    }
 
-// So many integers of a list, put at the start of another.
-pub fn integers<R: Read>(reader: &mut R, list: &mut [i64], n: usize) {
-    for i in 0..least(n, list.len()) {
-        list[i] = integer(reader);
+    // The next float of a list.
+    pub fn cell(&mut self) -> f64 {
+        let mut line = [0; 17];
+        full(&mut self.reader, &mut line);
+        bits::float(Number::of::<16>(&line[0..16]).magnitude)
+    }
+
+    // A small number.
+    pub fn small(&mut self) -> usize {
+        let mut line = [0; 4];
+        full(&mut self.reader, &mut line);
+        Number::of::<10>(&line[0..3]).magnitude as usize
+    }
+
+    fn next_integer(&mut self) -> Number {
+        let mut line = [0; 21];
+        full(&mut self.reader, &mut line);
+        Number::of::<10>(&line[0..20])
+    }
+
+    // The next integer of a list.
+    pub fn integer(&mut self) -> i64 {
+        self.next_integer().signed()
+    }
+
+    // The same where it is not below 0.
+    pub fn natural(&mut self) -> usize {
+        self.next_integer().magnitude as usize
+    }
+
+    // So many items of a list, each read by `next`, put at the start of another.
+    pub fn list<T: Copy, F: FnMut(&mut Self) -> T>(&mut self, list: &mut [T], n: usize, mut next: F)
+        requires { F.IsAlwaysCallable next }
+    {
+        for item in list.iter_mut().take(n) {
+            *item = next(self);
+        }
+    }
+
+    // So many bytes, put at the start of a list, as far as there is room: how many there is room for.
+    pub fn bytes(&mut self, list: &mut [u8], n: usize) -> usize
+        ensures { result ≤ length list.new }
+    {
+        let room = n.min(list.len());
+        full(&mut self.reader, &mut list[0..room]);
+        room
     }
 }

@@ -3,128 +3,79 @@
 // many calls there were.
 #![tactic(auto)]
 
-use rules::{NumberAnswer, NumberReading};
+use rules::NumberReading;
 use std::io;
 use std::io::Read;
-use test_common::seen;
-use test_common::seen::Seen;
-use test_input::read;
-use test_input::read::Name;
+use test_common::seen::{Trial, replay};
+use test_input::read::Input;
 
-// What was seen, and the record that is kept.
-#[derive(Clone, Copy)]
-struct Reading {
-    seen: Seen,
-    kept: NumberReading,
-}
-
-fn next_record<R: Read>(reader: &mut R) -> NumberReading {
+fn next_record<R: Read + Drop>(input: &mut Input<R>) -> NumberReading {
     NumberReading {
-        start: read::natural(reader),
-        next: read::natural(reader),
-        size: read::natural(reader) as u64,
-        stage: (read::natural(reader) % 256) as u8,
-        minus: (read::natural(reader) % 256) as u8,
+        start: input.natural(),
+        next: input.natural(),
+        size: input.natural() as u64,
+        stage: (input.natural() % 256) as u8,
+        minus: (input.natural() % 256) as u8,
     }
 }
 
-fn is_unlike(a: NumberReading, b: NumberReading) -> bool {
-    if a.start != b.start || a.next != b.next {
-        return true;
-    }
-    a.size != b.size || a.stage != b.stage || a.minus != b.minus
+// What is kept is compared with the next record.
+fn keeps<R: Read + Drop>(trial: &mut Trial<R>, kept: NumberReading, expected: NumberReading) {
+    trial.called(kept == expected);
 }
 
 // What the record says is compared with the next three numbers.
-fn says<R: Read>(reader: &mut R, seen: Seen, said: NumberAnswer) -> Seen {
-    let seen = seen::answered(seen, said.number, read::natural(reader));
-    let seen = seen::natural(reader, seen, said.at);
-    seen::integer(reader, seen, said.value)
+fn says<R: Read + Drop>(trial: &mut Trial<R>, kept: NumberReading) {
+    let said = number::finish(kept);
+    let expected = trial.input.natural();
+    trial.called(said.number as usize == expected);
+    let at = trial.input.natural();
+    trial.compared(said.at == at);
+    let value = trial.input.integer();
+    trial.compared(said.value == value);
 }
 
-fn goes_on<R: Read>(reader: &mut R, reading: Reading, bytes: &[u8]) -> Reading {
-    let kept = number::go_on(reading.kept, bytes);
-    let seen = seen::called(reading.seen, is_unlike(kept, next_record(reader)));
-    Reading {
-        seen: says(reader, seen, number::finish(kept)),
-        kept,
-    }
+fn goes_on<R: Read + Drop>(
+    trial: &mut Trial<R>,
+    kept: NumberReading,
+    bytes: &[u8],
+) -> NumberReading {
+    let kept = number::go_on(kept, bytes);
+    let expected = next_record(&mut trial.input);
+    keeps(trial, kept, expected);
+    says(trial, kept);
+    kept
 }
 
-// A line's end stands behind a piece.
-fn skip_end<R: Read>(reader: &mut R) {
-    let mut end = [0u8; 1];
-    read::full(reader, &mut end);
-}
-
-fn piece_in<R: Read>(reader: &mut R, reading: Reading, line: &mut [u8], count: usize) -> Reading {
-    let length = read::least(count, line.len());
-    read::full(reader, &mut line[0..length]);
-    skip_end(reader);
-    goes_on(reader, reading, &line[0..read::least(length, line.len())])
-}
-
-// A piece has at most 64 bytes; what is more is cut off.
-fn piece<R: Read>(reader: &mut R, reading: Reading) -> Reading {
+// A piece has at most 64 bytes; what is more is cut off. A line's end stands behind it.
+fn piece<R: Read + Drop>(trial: &mut Trial<R>, kept: NumberReading) -> NumberReading {
     let mut line = [0; 64];
-    let count = read::count(reader);
-    piece_in(reader, reading, &mut line, count)
-}
-
-fn pieces<R: Read>(reader: &mut R, reading: Reading, count: usize) -> Seen {
-    let mut reading = reading;
-    for _ in 0..count {
-        reading = piece(reader, reading);
-    }
-    reading.seen
+    let mut end = [0; 1];
+    let count = trial.input.count();
+    let length = trial.input.bytes(&mut line, count);
+    trial.input.bytes(&mut end, 1);
+    goes_on(trial, kept, &line[0..length.min(64)])
 }
 
 // A record that is begun at its start, or one as it is given.
-fn begin(seen: Seen, begun: usize, given: NumberReading) -> Reading {
-    if begun == 0 {
-        return Reading { seen, kept: given };
+fn begin<R: Read + Drop>(trial: &mut Trial<R>) -> NumberReading {
+    let is_begun = trial.input.count() != 0;
+    let given = next_record(&mut trial.input);
+    if is_begun {
+        let kept = number::begin(given.start);
+        keeps(trial, kept, given);
+        return kept;
     }
-    let kept = number::begin(given.start);
-    Reading {
-        seen: seen::called(seen, is_unlike(kept, given)),
-        kept,
-    }
+    given
 }
 
-fn trial<R: Read>(reader: &mut R, seen: Seen) -> Seen {
-    let reading = begin(seen, read::count(reader), next_record(reader));
-    let count = read::count(reader);
-    pieces(reader, reading, count)
-}
-
-fn next<R: Read, P: Print>(
-    reader: &mut R,
-    printer: &P,
-    seen: Seen,
-    name: Name,
-) -> io::Result<Seen> {
-    if name.is_remark {
-        return Ok(seen);
+fn trial<R: Read + Drop>(trial: &mut Trial<R>) {
+    let mut kept = begin(trial);
+    for _ in 0..trial.input.count() {
+        kept = piece(trial, kept);
     }
-    seen::named(printer, seen, trial(reader, seen), name)
-}
-
-// A proved loop has to end, and nothing says that the input does. So it ends at a number of lines that the input does
-// not reach.
-fn replay<R: Read, P: Print>(reader: &mut R, printer: &P) -> io::Result<Seen> {
-    let mut seen = seen::nothing();
-    for _ in 0..100000u32 {
-        let name = read::next_name(reader);
-        if name.length != 68 {
-            return Ok(seen::ended(seen, name));
-        }
-        seen = next(reader, printer, seen, name)?;
-    }
-    Ok(seen)
 }
 
 fn main(rt: HostRuntime) -> io::Result<()> {
-    let mut reader = rt.stdin();
-    let seen = replay(&mut reader, &rt)?;
-    seen::report(&rt, seen)
+    replay(&rt, rt.stdin(), |each| trial(each))
 }

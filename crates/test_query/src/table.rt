@@ -4,7 +4,8 @@
 ghost use Rattle.std.specs.Prelude.{◌<◌};
 
 use std::io::Read;
-use test_input::{bits, read};
+use test_input::bits;
+use test_input::read::Input;
 
 fn next(x: u64) -> u64
     ensures { result < 2147483648 }
@@ -31,9 +32,9 @@ fn ordinary(kind: usize, digits: u64) -> f64 {
 // NaNs, infinities, zeros, the greatest and the least, among ordinary ones.
 fn special(digits: u64) -> f64 {
     match digits / 0x100_0000_0000_0000 {
-        0 => 0.0 / 0.0,
-        1 => 1.0 / 0.0,
-        2 => -1.0 / 0.0,
+        0 => f64::NAN,
+        1 => f64::INFINITY,
+        2 => f64::NEG_INFINITY,
         3 => 0.0,
         4 => -0.0,
         5 => 1.7976931348623157e308,
@@ -43,20 +44,20 @@ fn special(digits: u64) -> f64 {
 }
 
 // Kind 3 has whole numbers within 20. Of kind 5 they stand in the input.
-fn coefficient<R: Read>(reader: &mut R, kind: usize, digits: u64) -> f64 {
+fn coefficient<R: Read + Drop>(input: &mut Input<R>, kind: usize, digits: u64) -> f64 {
     match kind {
         3 => std::num::nearest_u64_to_f64(digits % 41) - 20.0,
         4 => special(digits),
-        5 => read::cell(reader),
+        5 => input.cell(),
         _ => ordinary(kind, digits),
     }
 }
 
-pub fn fill<R: Read>(reader: &mut R, table: &mut [f64], n: usize, kind: usize, seed: usize) {
+pub fn fill<R: Read + Drop>(input: &mut Input<R>, table: &mut [f64], kind: usize, seed: usize) {
     let mut x = seed as u64;
-    for i in 0..read::least(n, table.len()) {
+    for cell in table {
         let high = next(x);
         x = next(high);
-        table[i] = coefficient(reader, kind, high * 0x8000_0000 + x);
+        *cell = coefficient(input, kind, high * 0x8000_0000 + x);
     }
 }

@@ -3,143 +3,97 @@
 // is written. Prints the names of sheets that were answered otherwise, and how many calls there were.
 #![tactic(auto)]
 
-use rules::{SheetAnswer, SheetPrinted};
+use rules::{PathError, PathRecord, SheetError};
 use std::io;
 use std::io::Read;
 use test_common::seen;
-use test_common::seen::Seen;
-use test_input::read;
-use test_input::read::Name;
+use test_common::seen::{Trial, replay};
 
 // (Functions of their own, so that what the library ensures stays out of their callers' proofs.)
-fn printed(sheet: &[u8], coeffs: &mut [f64], out: &mut [u8]) -> SheetPrinted {
+fn printed(sheet: &[u8], coeffs: &mut [f64], out: &mut [u8]) -> Result<usize, PathError> {
     sheet_print::print_sheet(sheet, coeffs, out)
 }
 
 // So many cells are lent, behind the first eight.
-fn built(sheet: &[u8], cells: &mut [f64], lent: usize) -> SheetAnswer {
-    let from = read::least(8, cells.len());
-    let end = from + read::least(lent, cells.len() - from);
+fn built(sheet: &[u8], cells: &mut [f64], lent: usize) -> Result<PathRecord, SheetError> {
+    let from = cells.len().min(8);
+    let end = from + lent.min(cells.len() - from);
     sheet::build_sheet(sheet, &mut cells[from..end])
 }
 
-// So many bytes of the input, put at the start of a list: how many there is room for.
-fn next_bytes<R: Read>(reader: &mut R, list: &mut [u8], n: usize) -> usize {
-    let room = read::least(n, list.len());
-    read::full(reader, &mut list[0..room]);
-    room
-}
-
-// Whether a list starts with another.
-fn starts_with(list: &[u8], start: &[u8]) -> bool {
-    for i in 0..read::least(start.len(), list.len()) {
-        if list[i] != start[i] {
-            return false;
-        }
-    }
-    start.len() <= list.len()
-}
-
 // (Arrays are made and lent apart: the prover knows the length of one that is a parameter, and counts that of one just made.)
-fn prints_into(
-    seen: Seen,
+fn prints_into<R: Read + Drop>(
+    trial: &mut Trial<R>,
     sheet: &[u8],
     output: &[u8],
     coeffs: &mut [f64; 16384],
     out: &mut [u8; 302240],
-) -> Seen {
-    let answer = printed(sheet, coeffs, out);
-    let is_output = answer.count == output.len() && starts_with(out, output);
-    seen::called(seen, answer.number != 0 || !is_output)
+) {
+    let count = printed(sheet, coeffs, out);
+    trial.called(count == Ok(output.len()) && out.starts_with(output));
 }
 
-fn prints(seen: Seen, sheet: &[u8], output: &[u8]) -> Seen {
+fn prints<R: Read + Drop>(trial: &mut Trial<R>, sheet: &[u8], output: &[u8]) {
     let mut coeffs = [0.0; 16384];
     let mut out = [0; 302240];
-    prints_into(seen, sheet, output, &mut coeffs, &mut out)
+    prints_into(trial, sheet, output, &mut coeffs, &mut out);
 }
 
-fn reads<R: Read>(reader: &mut R, seen: Seen, sheet: &[u8]) -> Seen {
-    let place = sheet::read_place(sheet);
-    let seen = seen::answered(seen, place.number, read::count(reader));
-    seen::whole(reader, seen, place.at)
+// A sheet's number and place: those of the refusal, or 0 and the sheet's length.
+fn placed<R: Read + Drop, T: Copy>(
+    trial: &mut Trial<R>,
+    sheet: &[u8],
+    answer: Result<T, SheetError>,
+) {
+    match answer {
+        Ok(_) => {
+            trial.answered(0);
+            trial.whole(sheet.len());
+        }
+        Err(error) => {
+            trial.answered(u32::from(error.cause));
+            trial.whole(error.at);
+        }
+    }
 }
 
 // A build, with as many cells lent as the input says.
-fn builds<R: Read>(reader: &mut R, seen: Seen, sheet: &[u8]) -> Seen {
+fn builds<R: Read + Drop>(trial: &mut Trial<R>, sheet: &[u8]) {
     let mut cells = [0.0; 16392];
     seen::fill(&mut cells);
-    let answer = built(sheet, &mut cells, read::count(reader));
-    let seen = seen::answered(seen, answer.number, read::count(reader));
-    let seen = seen::whole(reader, seen, answer.at);
-    let written = read::count(reader);
-    seen::cells(reader, seen, &cells, written)
+    let lent = trial.input.count();
+    placed(trial, sheet, built(sheet, &mut cells, lent));
+    let written = trial.input.count();
+    trial.cells(&cells, written);
 }
 
-// A sheet and its output that stand at the start of two lists.
-fn serves<R: Read>(
-    reader: &mut R,
-    seen: Seen,
-    sheet: &[u8],
-    length: usize,
-    output: &[u8],
-    count: usize,
-) -> Seen {
-    let text = &sheet[0..read::least(length, sheet.len())];
-    let seen = prints(seen, text, &output[0..read::least(count, output.len())]);
-    let seen = reads(reader, seen, text);
-    let seen = builds(reader, seen, text);
-    builds(reader, seen, text)
-}
-
-fn trial_in<R: Read>(
-    reader: &mut R,
-    seen: Seen,
-    sheet: &mut [u8; 32769],
-    output: &mut [u8; 302240],
-) -> Seen {
-    let n = read::count(reader);
-    let length = next_bytes(reader, sheet, n);
-    let n = read::count(reader);
-    let count = next_bytes(reader, output, n);
-    serves(reader, seen, sheet, length, output, count)
+// A sheet and its output.
+fn serves<R: Read + Drop>(trial: &mut Trial<R>, sheet: &[u8], output: &[u8]) {
+    prints(trial, sheet, output);
+    placed(trial, sheet, sheet::read_place(sheet));
+    builds(trial, sheet);
+    builds(trial, sheet);
 }
 
 // There is room for a text that is too long by one byte, and for the longest output.
-fn trial<R: Read>(reader: &mut R, seen: Seen) -> Seen {
+fn trial_in<R: Read + Drop>(
+    trial: &mut Trial<R>,
+    sheet: &mut [u8; 32769],
+    output: &mut [u8; 302240],
+) {
+    let n = trial.input.count();
+    let length = trial.input.bytes(sheet, n);
+    let n = trial.input.count();
+    let count = trial.input.bytes(output, n);
+    serves(trial, &sheet[..length], &output[..count]);
+}
+
+fn trial<R: Read + Drop>(trial: &mut Trial<R>) {
     let mut sheet = [0; 32769];
     let mut output = [0; 302240];
-    trial_in(reader, seen, &mut sheet, &mut output)
-}
-
-fn next<R: Read, P: Print>(
-    reader: &mut R,
-    printer: &P,
-    seen: Seen,
-    name: Name,
-) -> io::Result<Seen> {
-    if name.is_remark {
-        return Ok(seen);
-    }
-    seen::named(printer, seen, trial(reader, seen), name)
-}
-
-// A proved loop has to end, and nothing says that the input does. So it ends at a number of lines that the input does
-// not reach.
-fn replay<R: Read, P: Print>(reader: &mut R, printer: &P) -> io::Result<Seen> {
-    let mut seen = seen::nothing();
-    for _ in 0..100000u32 {
-        let name = read::next_name(reader);
-        if name.length != 68 {
-            return Ok(seen::ended(seen, name));
-        }
-        seen = next(reader, printer, seen, name)?;
-    }
-    Ok(seen)
+    trial_in(trial, &mut sheet, &mut output);
 }
 
 fn main(rt: HostRuntime) -> io::Result<()> {
-    let mut reader = rt.stdin();
-    let seen = replay(&mut reader, &rt)?;
-    seen::report(&rt, seen)
+    replay(&rt, rt.stdin(), |each| trial(each))
 }

@@ -6,8 +6,7 @@ ghost use Rattle.std.specs.Prelude.{◌≡◌, length};
 ghost use Rattle.rules.specs.Build.{input_of, build_answer, buffer_after};
 ghost use Rattle.tezvorup_records.specs.Meaning.{config_of, answer_of};
 
-use tezvorup_answers::answer_of;
-use tezvorup_given::config_of;
+use rules::{SplineConfig, SplineInput};
 use tezvorup_records::{RawAnswer, RawConfig};
 
 // A1: the build (document 01, modules 2 to 5). The coefficients are written where the number answered is 0.
@@ -25,15 +24,14 @@ pub extern "C" fn spline_build(
         (result ≡ answer_of (build_answer b (length coefficients.old)))
         × (coefficients.new ≡ buffer_after b coefficients.old) }
 {
-    let config = config_of(config);
-    let answer = build::from_waypoints_view(
+    let config = SplineConfig::from(config);
+    let input = SplineInput {
         config,
         points,
         axes,
         waypoints,
         start,
         end,
-        coefficients,
-    );
-    answer_of(answer)
+    };
+    RawAnswer::from(build::from_waypoints_view(input, coefficients))
 }

@@ -6,7 +6,6 @@ ghost use Rattle.std.specs.Prelude.{◌≡◌};
 ghost use Rattle.rules.specs.Master.{set_of, check_master};
 ghost use Rattle.tezvorup_records.specs.Meaning.{check_of};
 
-use tezvorup_answers::check_of;
 use tezvorup_records::RawCheck;
 
 // A1, M8: the check of masters (document 01, module 7), over one axis in whole numbers.
@@ -21,5 +20,5 @@ pub extern "C" fn spline_check_master(
     ensures { let set = set_of order waypoints.now start.now end.now table.now in
         result ≡ check_of (check_master set) }
 {
-    check_of(master::check_master(order, waypoints, start, end, table))
+    RawCheck::from(master::check_master(order, waypoints, start, end, table))
 }

@@ -6,8 +6,7 @@ ghost use Rattle.std.specs.Prelude.{◌≡◌};
 ghost use Rattle.rules.specs.Build.{input_of, build_answer};
 ghost use Rattle.tezvorup_records.specs.Meaning.{config_of, answer_of};
 
-use tezvorup_answers::answer_of;
-use tezvorup_given::config_of;
+use rules::{SplineConfig, SplineInput};
 use tezvorup_records::{RawAnswer, RawConfig};
 
 // A1, V1, V2, V7: the preview. The coefficients are a count alone.
@@ -24,15 +23,14 @@ pub extern "C" fn spline_preview(
     ensures { let b = input_of (config_of config) points axes waypoints.now start.now end.now in
         result ≡ answer_of (build_answer b coefficient_count) }
 {
-    let config = config_of(config);
-    let answer = build_preview::preview(
+    let config = SplineConfig::from(config);
+    let input = SplineInput {
         config,
         points,
         axes,
         waypoints,
         start,
         end,
-        coefficient_count,
-    );
-    answer_of(answer)
+    };
+    RawAnswer::from(build_preview::preview(input, coefficient_count))
 }

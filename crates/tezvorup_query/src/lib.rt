@@ -5,8 +5,8 @@
 ghost use Rattle.rules.specs.Query.{buffers, Queried, query_of};
 ghost use Rattle.tezvorup_records.specs.Meaning.{path_of};
 
-use rules::PathParam;
-use tezvorup_given::path_of;
+use query_levels::Buffers;
+use rules::{PathParam, PathRecord, number_answered};
 use tezvorup_records::RawPath;
 
 // A1: the query (document 01, module 6). The buffers are written where the answer is 0, and of those the ones that the level
@@ -27,6 +27,8 @@ pub extern "C" fn spline_query(
         result
         (buffers q.new dq.new ddq.new dddq.new) }
 {
-    let path = path_of(path);
-    query::eval_at(path, coefficients, PathParam(s), level, q, dq, ddq, dddq)
+    let path = PathRecord::from(path);
+    let mut buffers = Buffers { q, dq, ddq, dddq };
+    let answer = query::eval_at(path, coefficients, PathParam(s), level, &mut buffers);
+    number_answered(answer)
 }
