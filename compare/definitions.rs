@@ -74,7 +74,7 @@ fn mode(clamp: bool) -> &'static str {
 
 impl State {
     fn text(&self) -> String {
-        self.given.map_or("None".to_string(), |(rows, columns, marked)| format!("Given {rows} {columns} {marked}"))
+        self.given.map_or("None".to_string(), |(rows, columns, marked)| format!("given {rows} {columns} {marked}"))
     }
 }
 
@@ -243,10 +243,10 @@ fn main() {
     let unfolding = &pieces[from..from + pieces[from..].find("\nboth").unwrap()];
     println!("-- Random trials of the definitions. Assumes nothing.");
     println!("{}", uses.join("\n"));
-    println!("use Rattle.std.specs.Prelude.{{ℕ, Bool, true, false, ◌&&◌, [], ◌∷◌, eqb, pos, replicate, Float}}");
+    println!("use Rattle.std.specs.Prelude.{{ℕ, Bool, true, false, ◌&&◌, [], ◌∷◌, eqb, pos, replicate, None, Float}}");
     println!("use Rattle.std.specs.Bool.{{beq}}\nuse Rattle.std.specs.Float.{{nan, binary64}}\nuse lib.Ieee.{{of_bits}}");
     println!("use Rattle.rules.specs.declared.OutOfRangeMode.TheVariants.{{Error, Clamp}}");
-    println!("use Rattle.rules.specs.declared.BoundaryState.TheVariants.{{None, Given}}");
+    println!("use Rattle.rules.specs.Build.{{given}}");
     println!("use Rattle.rules.specs.Tables.{{neg as negative}}");
     println!("use Rattle.rules.specs.Master.{{MasterSet}}");
     println!("use Rattle.rules.specs.Pieces.{{built, queried, stepped}}\n");
