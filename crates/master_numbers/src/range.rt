@@ -3,25 +3,19 @@ ghost use Rattle.std.specs.Prelude.{◌≡◌};
 ghost use Rattle.law_lists.specs.Lists.{all};
 ghost use Rattle.rules.specs.Master.{within};
 
+// 2^40: 1,099,511,627,776
+const LIMIT: i64 = 1 << 40;
+
 // M7: of one number.
+#[tactic(auto, unfolding(rules::specs::Master::within))]
 fn is_within(z: i64) -> bool
     ensures { result ≡ within z }
 {
-    if z < -1099511627776 {
-        return false;
-    }
-    z <= 1099511627776
+    (-LIMIT..=LIMIT).contains(&z)
 }
 
 pub fn all_within(numbers: &[i64]) -> bool
     ensures { result ≡ all within numbers.now }
 {
-    let mut i = 0;
-    while i < numbers.len() {
-        if !is_within(numbers[i]) {
-            return false;
-        }
-        i += 1;
-    }
-    true
+    numbers.iter().all(|z| is_within(*z))
 }
