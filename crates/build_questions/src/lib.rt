@@ -2,111 +2,78 @@
 // without a buffer.
 #![tactic(auto)]
 
-ghost use Rattle.std.specs.Prelude.{◌≡◌, ◌≤◌};
+ghost use Rattle.std.specs.Prelude.{◌≡◌, ◌≤◌, Bool, ◌&&◌};
 ghost use Rattle.rules.specs.Floats.{finite};
 ghost use Rattle.law_lists.specs.Lists.{all};
-ghost use Rattle.rules.specs.Questions.{first_no};
-ghost use Rattle.rules.specs.Build.{input_of, valid_state, finite_state, build_questions};
+ghost use Rattle.rules.specs.Questions.{first_no, number_answered};
+ghost use Rattle.rules.specs.Build.{given_by, valid_state, finite_state, build_questions};
 
 use build_shape::shape_questions;
-use rules::{BoundaryState, SplineConfig};
+use rules::{BoundaryState, PathError, SplineInput};
 
-// B6: of a state with so many numbers beside it.
-fn valid_state(axes: usize, m: usize, state: BoundaryState, numbers: &[f64]) -> bool
+// B6: of a state, with the numbers beside it.
+#[tactic(auto, unfolding(rules::specs::Build::valid_state))]
+fn valid_state(axes: usize, m: usize, state: Option<BoundaryState>, numbers: &[f64]) -> bool
     requires { (axes ≤ 8) × (m ≤ 3) }
     ensures { result ≡ valid_state axes m state numbers.now }
 {
-    match state {
-        BoundaryState::None => true,
-        BoundaryState::Given {
-            rows,
-            columns,
-            per_unit_of_s: _,
-        } => {
-            if rows != axes {
-                return false;
-            }
-            if columns != m {
-                return false;
-            }
-            numbers.len() == axes * m
-        }
-    }
+    let Some(state) = state else {
+        return true;
+    };
+    state.rows == axes && state.columns == m && numbers.len() == axes * m
 }
 
 // B9: of a list.
 fn all_finite(numbers: &[f64]) -> bool
     ensures { result ≡ all finite numbers.now }
 {
-    let mut i = 0;
-    while i < numbers.len() {
-        if !questions::is_finite(numbers[i]) {
-            return false;
-        }
-        i += 1;
-    }
-    true
+    numbers.iter().all(|&number| questions::is_finite(number))
 }
 
-// B9: of a state.
-fn finite_state(state: BoundaryState, numbers: &[f64]) -> bool
+// B9: of a state, with the numbers beside it.
+#[tactic(auto, unfolding(rules::specs::Build::finite_state))]
+fn finite_state(state: Option<BoundaryState>, numbers: &[f64]) -> bool
     ensures { result ≡ finite_state state numbers.now }
 {
-    match state {
-        BoundaryState::None => true,
-        BoundaryState::Given {
-            rows: _,
-            columns: _,
-            per_unit_of_s: _,
-        } => all_finite(numbers),
-    }
+    state.is_none() || all_finite(numbers)
 }
 
-// G4: the number of the first no, and 0 where all say yes.
-pub fn build_questions(
-    config: SplineConfig,
-    points: usize,
-    axes: usize,
-    waypoints: &[f64],
-    start: &[f64],
-    end: &[f64],
-    cells: usize,
-) -> u32
-    ensures { let b = input_of config points axes waypoints.now start.now end.now in
-        result ≡ first_no (build_questions b cells) }
+// B9: of all that a build is given.
+fn all_numbers_finite(input: SplineInput) -> bool
+    ensures { let b = given_by input.entry in
+        result ≡ (all finite b.waypoints && finite_state b.config.start_state b.start && finite_state b.config.end_state b.end) }
 {
-    let order = config.order;
-    let start_state = config.start_state;
-    let end_state = config.end_state;
-    let s_min = config.s_min;
-    let s_max = config.s_max;
-    let number = shape_questions(order, points, axes, waypoints.len());
-    if number != 0 {
-        return number; // B1, B2, B3, B4, B5
+    let config = input.config;
+    all_finite(input.waypoints)
+        && finite_state(config.start_state, input.start)
+        && finite_state(config.end_state, input.end)
+}
+
+// G4: the first no is the refusal.
+#[tactic(auto, using(crate::proofs::Behind::behind, build_shape::proofs::Shaped::limits), unfolding(rules::specs::Questions::first_no))]
+pub fn build_questions(input: SplineInput, cells: usize) -> Result<(), PathError>
+    ensures { number_answered result ≡ first_no (build_questions (given_by input.entry) cells) }
+{
+    let config = input.config;
+    let axes = input.axes;
+    shape_questions(config.order, input.points, axes, input.waypoints.len())?; // B1, B2, B3, B4, B5
+    let m = (config.order - 1) / 2;
+    if !valid_state(axes, m, config.start_state, input.start) {
+        return Err(PathError::DimensionMismatch); // B6: of the start
     }
-    let m = (order - 1) / 2;
-    if !valid_state(axes, m, start_state, start) {
-        return 303; // B6: of the start
+    if !valid_state(axes, m, config.end_state, input.end) {
+        return Err(PathError::DimensionMismatch); // B6: of the end
     }
-    if !valid_state(axes, m, end_state, end) {
-        return 303; // B6: of the end
+    let segments = input.points - 1;
+    let wanted = axes * segments * (config.order + 1);
+    if cells != wanted {
+        return Err(PathError::InvalidLength); // B7
     }
-    let segments = points - 1;
-    let is_unlike = cells != axes * segments * (order + 1);
-    if is_unlike {
-        return 2; // B7
+    if !questions::valid_range(segments, config.s_min, config.s_max) {
+        return Err(PathError::InvalidRange); // B8
     }
-    if !questions::valid_range(segments, s_min, s_max) {
-        return 301; // B8
+    if !all_numbers_finite(input) {
+        return Err(PathError::InvalidArgument); // B9
     }
-    if !all_finite(waypoints) {
-        return 4; // B9: of the waypoints
-    }
-    if !finite_state(start_state, start) {
-        return 4; // B9: of the start
-    }
-    if !finite_state(end_state, end) {
-        return 4; // B9: of the end
-    }
-    0 // every question says yes
+    Ok(())
 }
