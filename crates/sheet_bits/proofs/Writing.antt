@@ -1,97 +1,52 @@
--- Laws of `written`: its length, one byte more at either end, and what is written after it. Assumes nothing.
-use mathlib.Core.Path.{◌≡◌, sym, ap, ◌∙◌}
-use mathlib.Core.List.{List, [], ◌∷◌, ◌++◌, append_assoc, append-nil}
+-- Laws of what is written onto a page: nothing, one thing after another, and parts. Assumes nothing.
+use mathlib.Core.Path.{◌≡◌, refl, ap, ◌∙◌, subst}
+use mathlib.Core.List.{List, [], ◌++◌}
 use mathlib.Core.Logic.{◌⊎◌, inl, inr}
-use Prim.Native.Nat.{ℕ, zero, suc, ◌+◌, ◌<◌, ◌≤◌}
+use Prim.Native.Nat.{ℕ, zero, suc, ◌+◌, ◌-◌, ◌<◌, ◌≤◌}
 use native.Mathlib.Numerals.{add-one}
-use native.Mathlib.Nat.{add-zero, zero-add, add_assoc}
+use native.Mathlib.Nat.{zero-add}
 use native.Mathlib.Omega.{arith}
-use lib.ListN.{length, get_or, take, drop, set, length-append, length-drop, take-append-drop}
-use lib.Seq.{length-take-le, take_at, drop_at, drop-drop, drop-cons, set_at, take-set-le, set_split, take-suc}
+use borrow.Rule.Slice.PartMut.{put_mid}
+use lib.Seq.{paste}
+use Rattle.std.proofs.lemmas.Slice.{put_mid-paste}
+use lib.ListN.{length, drop, length-append}
+use Rattle.std.proofs.lemmas.List.Edits.{paste_none, paste_all, paste-paste, length-paste}
 use Rattle.law_lists.specs.Lists.{joined}
 use Rattle.law_lists.proofs.Lists.{below_suc}
-use Rattle.sheet_bits.specs.Written.{written, Wrote}
+use Rattle.sheet_bits.specs.declared.Page.{Page}
+use Rattle.sheet_bits.specs.Page.{HasRoom, Wrote}
 
-pub written_none : (out : List ℕ) (at : ℕ) → written out at [] ≡ out
-unfolding written
-written_none out at = rw (append-nil, add-zero) (take-append-drop at out)
+pub wrote_none : (page : Page) → page.at ≤ length page.buffer.now → Wrote page [] page
+wrote_none page h =
+    record { same_buffer = refl; same_length = refl; place = omega arith; inside = h; is_written = paste_none page.buffer.now page.at [] }
 
-module _ (out : List ℕ) (at : ℕ) (x : List ℕ) (room : at + length x ≤ length out) where
-  head_length : length (take at out ++ x) ≡ at + length x
-  head_length = length-append (take at out) x ∙ ap (λ (n : ℕ). n + length x) (length-take-le at out (omega arith))
+-- the part for them was lent, and came back with bytes
+pub wrote_lent : {page after : Page} (bytes : List ℕ) {part : List ℕ} → part ≡ bytes → HasRoom page bytes
+    → after.buffer.ghost_name ≡ page.buffer.ghost_name → after.at ≡ page.at + length bytes
+    → after.buffer.now ≡ put_mid page.at (after.at - page.at) page.buffer.now part → Wrote page bytes after
+wrote_lent {page} {after} bytes {part} e h same place is =
+    let is_written : after.buffer.now ≡ paste page.buffer.now page.at bytes (length bytes) =
+    is ∙ put_mid-paste page.at (after.at - page.at) page.buffer.now part bytes (length bytes) e (omega arith) refl in
+    let same_length : length after.buffer.now ≡ length page.buffer.now =
+    ap length is_written ∙ length-paste page.buffer.now page.at bytes (length bytes) h (omega arith) in
+    record { same_buffer = same; same_length = same_length; place = place; inside = omega arith; is_written = is_written }
 
-  pub length-written : length (written out at x) ≡ length out
-  unfolding written
-  length-written = simp (length-append (take at out ++ x), head_length, length-drop) (omega arith)
-
-  -- more after it
-  pub written_written : (y : List ℕ) → written (written out at x) (at + length x) y ≡ written out at (x ++ y)
-  unfolding written
-  written_written y =
-      rw (
-        take_at (take at out ++ x) (drop (at + length x) out) (at + length x) head_length,
-        ← drop-drop (length y) (at + length x) ((take at out ++ x) ++ drop (at + length x) out),
-        drop_at (take at out ++ x) (drop (at + length x) out) (at + length x) head_length,
-        drop-drop,
-        length-append,
-        append_assoc (take at out) x y,
-        add_assoc,
-      )
-
-  grown : (b : ℕ) → at + length (x ++ (b ∷ [])) ≡ suc (at + length x)
-  grown b = rw length-append (omega arith)
-
--- a byte after it
-written_more : (out : List ℕ) (at : ℕ) (x : List ℕ) (b : ℕ) → at + length x < length out
-    → set (written out at x) (at + length x) b ≡ written out at (x ++ (b ∷ []))
-unfolding written
-written_more out at x b room =
-    let p : at + length x ≤ length out = omega arith in
-    ap (λ (l : List ℕ). set ((take at out ++ x) ++ l) (at + length x) b) (drop-cons out (at + length x) 0 room)
-    ∙ set_at (take at out ++ x) _ (drop (suc (at + length x)) out) b (at + length x) (head_length out at x p)
-    ∙ rw (grown out at x p b) (simp append_assoc)
-
--- a byte that stands after it already
-written_set : (out : List ℕ) (at : ℕ) (x : List ℕ) (b : ℕ) → at + length x < length out
-    → written (set out (at + length x) b) at x ≡ written out at (x ++ (b ∷ []))
-unfolding written
-written_set out at x b room =
-    let p : at + length x ≤ length out = omega arith in
-    rw (take-set-le at out (at + length x) b (omega arith), set_split out (at + length x) b room, grown out at x p b)
-    (ap (λ (l : List ℕ). (take at out ++ x) ++ l)
-    (drop_at (take (at + length x) out) (b ∷ drop (suc (at + length x)) out) (at + length x) (length-take-le _ out p))
-    ∙ simp append_assoc)
-
--- ---- what routines wrote
-
-pub wrote_none : (out : List ℕ) (at : ℕ) → Wrote out at [] at out
-wrote_none out at = record { place = omega arith; buffer = sym (written_none out at) }
-
-module _ {before after x : List ℕ} {at end : ℕ} (f : Wrote before at x end after) where
-  pub wrote_kept : end ≤ length before → length after ≡ length before
-  wrote_kept h = ap length f.buffer ∙ length-written before at x (omega (arith, f.place))
-
-  -- one byte more
-  pub wrote_byte : {next : ℕ} (b : ℕ) → end < length before → next ≡ end + 1 → Wrote before at (x ++ (b ∷ [])) next (set after end b)
-  wrote_byte b h e =
-      record { place = rw length-append (omega (arith, f.place)); buffer = rw (f.buffer, f.place) (written_more before at x b (omega (arith, f.place))) }
-
-  -- and then another routine
-  pub wrote_both : {last y : List ℕ} {next : ℕ} → end ≤ length before → Wrote after end y next last → Wrote before at (x ++ y) next last
-  wrote_both h s =
-      record {
-        place = rw length-append (omega (arith, f.place, s.place));
-        buffer = s.buffer ∙ rw (f.buffer, f.place) (written_written before at x (omega (arith, f.place)) _);
-      }
-
--- one byte more of a list
-pub wrote_taken : {before after : List ℕ} {at : ℕ} (w : List ℕ) (j : ℕ) → j < length w → at + length w ≤ length before
-    → Wrote before at (take j w) (at + j) after → Wrote before at (take (j + 1) w) (at + (j + 1)) (set after (at + j) (get_or w j 0))
-wrote_taken w j l h f = rw (add-one, take-suc w j 0 l) (wrote_byte f (get_or w j 0) (omega arith) (omega arith))
+-- and then another routine
+pub wrote_both : {before between after : Page} {x y : List ℕ} → Wrote before x between → Wrote between y after → Wrote before (x ++ y) after
+wrote_both {before} {x = x} {y} f s = record {
+  same_buffer = s.same_buffer ∙ f.same_buffer;
+  same_length = s.same_length ∙ f.same_length;
+  place = rw length-append (omega (arith, f.place, s.place));
+  inside = s.inside;
+  is_written =
+      s.is_written
+      ∙ rw (f.is_written, f.place, length-append) (paste-paste before.buffer.now before.at x y (length x) (length y) refl refl
+      (omega (arith, f.place, f.inside, f.same_length)));
+}
 
 -- the same bytes, said in another way
-pub wrote_as : {before after x y : List ℕ} {at end : ℕ} → x ≡ y → Wrote before at x end after → Wrote before at y end after
-wrote_as {at = at} e f = record { place = f.place ∙ ap (λ (l : List ℕ). at + length l) e; buffer = f.buffer ∙ ap (written _ at) e }
+pub wrote_as : {before after : Page} {x y : List ℕ} → x ≡ y → Wrote before x after → Wrote before y after
+wrote_as {before} {after} e f = subst (λ (bytes : List ℕ). Wrote before bytes after) e f
 
 -- ---- parts one after the other
 
@@ -106,27 +61,24 @@ joined_room (suc n) f i h = go (below_suc h) (joined_room n f i)
     go (inl e) r = rw (e, length-append) (omega arith)
     go (inr l) r = rw length-append (omega (arith, r l))
 
--- the i-th part
-module _ {before after : List ℕ} {at end : ℕ} (n : ℕ) (f : ℕ → List ℕ) (i : ℕ) (l : i < n) (h : at + length (joined n f) ≤ length before)
-    (w : Wrote before at (joined i f) end after) where
-  pub part_room : end + length (f i) ≤ length after
-  part_room = let r = joined_room n f i l in omega (arith, w.place, wrote_kept w (omega (arith, w.place)))
+module _ (f : ℕ → List ℕ) (i : ℕ) {before here : Page} (w : Wrote before (joined i f) here) where
+  -- there is room for the i-th of n parts
+  pub part_room : (n : ℕ) → i < n → HasRoom before (joined n f) → HasRoom here (f i)
+  part_room n l h = omega (arith, joined_room n f i l, w.place, w.same_length)
 
-  pub wrote_part : {last y : List ℕ} {next : ℕ} → y ≡ f i → Wrote after end y next last → Wrote before at (joined (i + 1) f) next last
+  -- which is written
+  pub wrote_part : {after : Page} {part : List ℕ} → part ≡ f i → Wrote here part after → Wrote before (joined (i + 1) f) after
   unfolding joined
-  wrote_part e s = let r = joined_room n f i l in rw (add-one, ← e) (wrote_both w (omega (arith, w.place, ap length e)) s)
+  wrote_part e s = rw (add-one) (wrote_both w (wrote_as e s))
 
--- all parts
-pub wrote_parts : {before after : List ℕ} {at end : ℕ} (n : ℕ) (f : ℕ → List ℕ) (i : ℕ) → i ≤ n → n ≤ i → Wrote before at (joined i f) end after
-    → Wrote before at (joined n f) end after
-wrote_parts n f i h l w = let e : i ≡ n = omega arith in rw e at w
-
--- a byte is set after which x is still to be written
-pub before_set : (out : List ℕ) (at : ℕ) {place : ℕ} (x : List ℕ) (b : ℕ) → place ≡ at + length x → place < length out
-    → written (set out place b) at x ≡ written out at (x ++ (b ∷ []))
-before_set out at x b e h = rw e (written_set out at x b (omega arith))
+  -- all parts
+  pub wrote_parts : {n : ℕ} → i ≤ n → n ≤ i → Wrote before (joined n f) here
+  wrote_parts {n} h l = let e : i ≡ n = omega arith in rw e at w
 
 -- from the start of a buffer
-pub wrote_all : {before after x : List ℕ} {end : ℕ} → Wrote before 0 x end after → (end ≡ length x) × (after ≡ x ++ drop (length x) before)
-unfolding written
-wrote_all f = (omega (arith, f.place), f.buffer ∙ rw zero-add)
+pub wrote_all : {page after : Page} {bytes out : List ℕ} → page.buffer.now ≡ out → page.at ≡ 0 → Wrote page bytes after
+    → (after.at ≡ length bytes) × (after.buffer.now ≡ bytes ++ drop (length bytes) out)
+wrote_all {bytes = x} {out} e z f = (
+  omega (arith, f.place),
+  f.is_written ∙ rw (e, z) (paste_all out 0 x (length x) refl ∙ rw zero-add),
+)

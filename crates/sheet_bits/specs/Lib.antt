@@ -1,2 +1,2 @@
-pub mod Written
+pub mod Page
 pub mod Coefficients

@@ -1,65 +1,79 @@
-// The pieces of the program's output that are written as they are, into a buffer that is lent: fixed bytes, and bits in hex. Each
-// routine writes at a place and answers the place after what it wrote.
+// The pieces of the program's output that are written as they are, onto a page: fixed bytes, and bits in hex.
 #![tactic(auto)]
 
-ghost use Rattle.std.specs.Prelude.{◌≡◌, ◌+◌, ◌<◌, ◌≤◌, length};
+ghost use Rattle.std.specs.Prelude.{◌≡◌, ◌<◌, length};
 ghost use Rattle.std.specs.Float.{binary64};
 ghost use Rattle.std.specs.Float.Ieee.{to_bits};
 ghost use Rattle.rules.specs.SheetAnswers.{hex_digit, hex};
-ghost use Rattle.sheet_bits.specs.Written.{Wrote};
+ghost use Rattle.sheet_bits.specs.Page.{HasRoom, Wrote};
 ghost use Rattle.sheet_bits.specs.Coefficients.{coefficient};
 
-// J2, J10, J11, J12: fixed bytes.
-pub fn put_bytes(out: &mut [u8], at: usize, w: &[u8]) -> usize
-    requires { at + length w.now ≤ length out.old }
-    ensures { Wrote out.old at w.now result out.new }
-{
-    let mut j = 0;
-    while j < w.len() {
-        out[at + j] = w[j];
-        j += 1;
+// A buffer that is lent, and the place up to which it is written.
+#[derive(Drop)]
+pub struct Page<'a> {
+    pub buffer: &'a mut [u8],
+    pub at: usize,
+}
+
+impl<'a> Page<'a> {
+    // Nothing is written yet.
+    pub fn new(buffer: &'a mut [u8]) -> Page<'a>
+        ensures same_buffer { result.buffer.ghost_name ≡ buffer.entry.ghost_name }
+        ensures as_lent { result.buffer.now ≡ buffer.old }
+        ensures at_start { result.at ≡ 0 }
+    {
+        Page { buffer, at: 0 }
     }
-    at + j
+
+    // J2, J10, J11, J12: fixed bytes.
+    pub fn put_bytes(&mut self, bytes: &[u8])
+        requires { HasRoom self.old bytes.now }
+        ensures { Wrote self.old bytes.now self.new }
+    {
+        let end = self.at + bytes.len();
+        self.buffer[self.at..end].copy_from_slice(bytes);
+        self.at = end;
+    }
 }
 
 // J11: a digit "in hex".
-fn hex_digit(d: u64) -> u8
-    requires { d < 16 }
-    ensures { result ≡ hex_digit d }
+fn hex_digit(digit: u64) -> u8
+    requires { digit < 16 }
+    ensures { result ≡ hex_digit digit }
 {
-    if d < 10 { 48 + d as u8 } else { 87 + d as u8 }
+    if digit < 10 {
+        b'0' + digit as u8
+    } else {
+        b'a' - 10 + digit as u8
+    }
 }
 
 // J11: 64 bits as 16 digits, the highest first.
-fn put_hex(out: &mut [u8], at: usize, bits: u64) -> usize
-    requires { at + 16 ≤ length out.old }
-    ensures { Wrote out.old at (hex bits) result out.new }
+fn hex_digits(bits: u64) -> [u8; 16]
+    ensures { result ≡ hex bits }
 {
-    let mut j = 0;
-    while j < 16 {
-        let d = (bits >> (60 - 4 * j)) % 16;
-        out[at + j] = hex_digit(d);
-        j += 1;
+    let mut digits = [0; 16];
+    for (j, digit) in digits.iter_mut().enumerate() {
+        *digit = hex_digit((bits >> (60 - 4 * j)) % 16);
     }
-    at + j
+    digits
 }
 
-// J11: "the bits of each coefficient". Every NaN has those of the one that the definitions know.
+// The one NaN that the definitions know.
+const NAN_BITS: u64 = 0x7ff8_0000_0000_0000;
+
+// J11: "the bits of each coefficient". Every NaN has those of that one.
 fn bits_of(x: f64) -> u64
     ensures { result ≡ to_bits binary64 x }
 {
-    if x == x {
-        f64::to_bits(x)
-    } else {
-        0x7ff8_0000_0000_0000
-    }
+    if x.is_nan() { NAN_BITS } else { x.to_bits() }
 }
 
 // J11: a coefficient, after a space.
-pub fn put_coefficient(out: &mut [u8], at: usize, x: f64) -> usize
-    requires { at + 17 ≤ length out.old }
-    ensures { Wrote out.old at (coefficient x) result out.new }
+pub fn put_coefficient(page: &mut Page, x: f64)
+    requires { HasRoom page.old (coefficient x) }
+    ensures { Wrote page.old (coefficient x) page.new }
 {
-    let next = put_bytes(out, at, b" ");
-    put_hex(out, next, bits_of(x))
+    page.put_bytes(b" ");
+    page.put_bytes(&hex_digits(bits_of(x)));
 }

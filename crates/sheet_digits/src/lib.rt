@@ -1,47 +1,49 @@
-// The numbers of the program's output, written in decimal into a buffer that is lent, after fixed bytes (crates/sheet_bits).
+// The numbers of the program's output, written in decimal onto a page, after fixed bytes (crates/sheet_bits).
 #![tactic(auto)]
 
-ghost use Rattle.std.specs.Prelude.{◌≡◌, ◌++◌, ◌+◌, ◌<◌, ◌≤◌, length};
+ghost use Rattle.std.specs.Prelude.{◌≡◌, ◌++◌, length};
 ghost use Rattle.rules.specs.Sheets.{natural};
-ghost use Rattle.sheet_bits.specs.Written.{Wrote};
+ghost use Rattle.sheet_bits.specs.Page.{HasRoom, Wrote};
 
-use sheet_bits::put_bytes;
+use sheet_bits::Page;
 
 // How many decimal digits a number has.
 fn digits(n: usize) -> usize
     ensures { result ≡ length (natural n) }
 {
-    let mut count = 1;
-    let mut rest = n;
-    while 10 <= rest {
-        rest = rest / 10;
-        count += 1;
+    match n.checked_ilog10() {
+        Some(log) => log as usize + 1,
+        None => 1,
     }
-    count
 }
 
-// J10, J11, J12: a number in decimal, from its last digit to its first.
-fn put_decimal(out: &mut [u8], at: usize, n: usize) -> usize
-    requires { at + length (natural n) ≤ length out.old }
-    ensures { Wrote out.old at (natural n) result out.new }
+// A number in decimal in a part that has as many places, from its last digit to its first.
+fn write_digits(places: &mut [u8], n: usize)
+    requires { length places.old ≡ length (natural n) }
+    ensures { places.new ≡ natural n }
 {
-    let end = at + digits(n);
-    let mut place = end - 1;
     let mut rest = n;
-    while 10 <= rest {
-        out[place] = 48 + (rest % 10) as u8;
-        place -= 1;
-        rest = rest / 10;
+    for place in (0..places.len()).rev() {
+        places[place] = b'0' + (rest % 10) as u8;
+        rest /= 10;
     }
-    out[place] = 48 + rest as u8;
-    end
+}
+
+// J10, J11, J12: a number in decimal. Not by `write!`: no clause of std says that it succeeds, and this cannot fail.
+fn put_decimal(page: &mut Page, n: usize)
+    requires { HasRoom page.old (natural n) }
+    ensures { Wrote page.old (natural n) page.new }
+{
+    let end = page.at + digits(n);
+    write_digits(&mut page.buffer[page.at..end], n);
+    page.at = end;
 }
 
 // J10, J11, J12: a number, after fixed bytes.
-pub fn put_number(out: &mut [u8], at: usize, w: &[u8], n: usize) -> usize
-    requires { at + length (w.now ++ natural n) ≤ length out.old }
-    ensures { Wrote out.old at (w.now ++ natural n) result out.new }
+pub fn put_number(page: &mut Page, bytes: &[u8], n: usize)
+    requires { HasRoom page.old (bytes.now ++ natural n) }
+    ensures { Wrote page.old (bytes.now ++ natural n) page.new }
 {
-    let next = put_bytes(out, at, w);
-    put_decimal(out, next, n)
+    page.put_bytes(bytes);
+    put_decimal(page, n);
 }

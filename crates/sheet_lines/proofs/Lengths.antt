@@ -13,15 +13,12 @@ use Rattle.rules.specs.SheetAnswers.{seg_line, refused_output}
 use Rattle.sheet_lines.specs.Output.{table_line, coefficients_of}
 use Rattle.sheet_bits.proofs.Hex.{length-hex}
 
-in_order : (a b c d e f g : List ℕ) → (((a ++ b) ++ (c ++ d)) ++ (e ++ f)) ++ g ≡ a ++ (b ++ (c ++ (d ++ (e ++ (f ++ g)))))
-in_order a b c d e f g = simp append_assoc
-
 -- J11: 17 bytes a coefficient
 pub length-coefficients : (cs : List Float) → length (coefficients_of cs) ≡ length cs * 17
 length-coefficients cs = length-joined (length cs) 17 _ (λ i l. ap suc (length-hex (to_bits binary64 (cs ! i))))
 
 module _ (a i : ℕ) (cs : List Float) where
-  pub line_parts : (((bytes "(seg " ++ natural a) ++ (bytes " " ++ natural i)) ++ coefficients_of cs) ++ bytes ")\n" ≡ seg_line a i cs
+  pub line_parts : (bytes "(seg " ++ natural a) ++ ((bytes " " ++ natural i) ++ (coefficients_of cs ++ bytes ")\n")) ≡ seg_line a i cs
   unfolding seg_line
   line_parts = simp append_assoc
 
@@ -29,14 +26,14 @@ module _ (a i : ℕ) (cs : List Float) where
   length_line = ap length (sym line_parts) ∙ simp length-append (omega arith)
 
 pub table_line_parts : (p : PathRecord)
-    → (((bytes "(table " ++ natural p.order) ++ (bytes " " ++ natural p.segments)) ++ (bytes " " ++ natural p.axes)) ++ bytes ")\n" ≡ table_line p
-table_line_parts p = in_order (bytes "(table ") (natural p.order) (bytes " ") (natural p.segments) (bytes " ") (natural p.axes) (bytes ")\n")
+    → (bytes "(table " ++ natural p.order) ++ ((bytes " " ++ natural p.segments) ++ ((bytes " " ++ natural p.axes) ++ bytes ")\n")) ≡ table_line p
+table_line_parts p = simp append_assoc
 
 pub length-table_line : (p : PathRecord) → length (table_line p) ≡ length (natural p.order) + length (natural p.segments) + length (natural p.axes) + 11
 length-table_line p = simp length-append (omega arith)
 
 module _ (number place : ℕ) where
-  pub refusal_parts : ((bytes "(refused " ++ natural number) ++ (bytes " " ++ natural place)) ++ bytes ")\n" ≡ refused_output number place
+  pub refusal_parts : (bytes "(refused " ++ natural number) ++ ((bytes " " ++ natural place) ++ bytes ")\n") ≡ refused_output number place
   unfolding refused_output
   refusal_parts = simp append_assoc
 

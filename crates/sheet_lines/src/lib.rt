@@ -1,51 +1,46 @@
-// The lines of the program's output, each written byte for byte into a buffer that is lent: those of
-// crates/rules/specs/SheetAnswers.antt. Each routine writes at a place, or at 0, and answers the place after what it
-// wrote. That a buffer of 302,240 bytes is long enough for every output is shown in proofs/Fits.antt.
+// The lines of the program's output, each written byte for byte onto a page: those of crates/rules/specs/SheetAnswers.antt.
+// That a buffer of 302,240 bytes is long enough for every output is shown in proofs/Fits.antt.
 #![tactic(auto)]
 
-ghost use Rattle.std.specs.Prelude.{◌≡◌, ◌++◌, ◌+◌, ◌≤◌, length, drop};
+ghost use Rattle.std.specs.Prelude.{◌≡◌, ◌++◌, ◌≤◌, length, drop};
 ghost use Rattle.rules.specs.SheetAnswers.{seg_line, refused_output};
-ghost use Rattle.sheet_bits.specs.Written.{Wrote};
+ghost use Rattle.sheet_bits.specs.Page.{HasRoom, Wrote};
 ghost use Rattle.sheet_lines.specs.Output.{table_line, coefficients_of};
 
 use rules::PathRecord;
-use sheet_bits::{put_bytes, put_coefficient};
+use sheet_bits::{Page, put_coefficient};
 use sheet_digits::put_number;
 
 // J11: a segment's coefficients.
-fn put_coefficients(out: &mut [u8], at: usize, coeffs: &[f64]) -> usize
-    requires { at + length (coefficients_of coeffs.now) ≤ length out.old }
-    ensures { Wrote out.old at (coefficients_of coeffs.now) result out.new }
+fn put_coefficients(page: &mut Page, coeffs: &[f64])
+    requires { HasRoom page.old (coefficients_of coeffs.now) }
+    ensures { Wrote page.old (coefficients_of coeffs.now) page.new }
 {
-    let mut end = at;
-    let mut k = 0;
-    while k < coeffs.len() {
-        end = put_coefficient(out, end, coeffs[k]);
-        k += 1;
+    for x in coeffs {
+        put_coefficient(page, *x);
     }
-    end
 }
 
 // J11: a segment's line: "axis, segment and the bits of each coefficient".
-pub fn put_segment(out: &mut [u8], at: usize, axis: usize, segment: usize, coeffs: &[f64]) -> usize
-    requires { at + length (seg_line axis segment coeffs.now) ≤ length out.old }
-    ensures { Wrote out.old at (seg_line axis segment coeffs.now) result out.new }
+pub fn put_segment(page: &mut Page, axis: usize, segment: usize, coeffs: &[f64])
+    requires { HasRoom page.old (seg_line axis segment coeffs.now) }
+    ensures { Wrote page.old (seg_line axis segment coeffs.now) page.new }
 {
-    let mut end = put_number(out, at, b"(seg ", axis);
-    end = put_number(out, end, b" ", segment);
-    end = put_coefficients(out, end, coeffs);
-    put_bytes(out, end, b")\n")
+    put_number(page, b"(seg ", axis);
+    put_number(page, b" ", segment);
+    put_coefficients(page, coeffs);
+    page.put_bytes(b")\n");
 }
 
 // J10: "order, segments, axes".
-pub fn put_table_line(out: &mut [u8], path: PathRecord) -> usize
-    requires { length (table_line path) ≤ length out.old }
-    ensures { Wrote out.old 0 (table_line path) result out.new }
+pub fn put_table_line(page: &mut Page, path: PathRecord)
+    requires { HasRoom page.old (table_line path) }
+    ensures { Wrote page.old (table_line path) page.new }
 {
-    let mut end = put_number(out, 0, b"(table ", path.order);
-    end = put_number(out, end, b" ", path.segments);
-    end = put_number(out, end, b" ", path.axes);
-    put_bytes(out, end, b")\n")
+    put_number(page, b"(table ", path.order);
+    put_number(page, b" ", path.segments);
+    put_number(page, b" ", path.axes);
+    page.put_bytes(b")\n");
 }
 
 // J12: a refusal, "number and byte place", and how many bytes that is. 42 bytes are enough for each.
@@ -54,7 +49,9 @@ pub fn write_refused(number: u32, at: usize, out: &mut [u8]) -> usize
     ensures { (result ≡ length (refused_output number at))
         × (out.new ≡ refused_output number at ++ drop (length (refused_output number at)) out.old) }
 {
-    let mut end = put_number(out, 0, b"(refused ", number as usize);
-    end = put_number(out, end, b" ", at);
-    put_bytes(out, end, b")\n")
+    let mut page = Page::new(out);
+    put_number(&mut page, b"(refused ", number as usize);
+    put_number(&mut page, b" ", at);
+    page.put_bytes(b")\n");
+    page.at
 }

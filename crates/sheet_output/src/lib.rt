@@ -4,28 +4,25 @@
 
 ghost use Rattle.std.specs.Prelude.{◌≡◌, ◌++◌, ◌+◌, ◌*◌, ◌≤◌, length, drop};
 ghost use Rattle.rules.specs.SheetAnswers.{table_output, most_bytes};
-ghost use Rattle.sheet_bits.specs.Written.{Wrote};
+ghost use Rattle.sheet_bits.specs.Page.{HasRoom, Wrote};
 ghost use Rattle.sheet_lines.specs.Output.{axis_lines};
 
 use rules::PathRecord;
+use sheet_bits::Page;
 use sheet_lines::{put_segment, put_table_line};
 
 // J11: an axis's segments.
-fn put_axis(out: &mut [u8], at: usize, path: PathRecord, axis: usize, coeffs: &[f64]) -> usize
+fn put_axis(page: &mut Page, path: PathRecord, axis: usize, coeffs: &[f64])
     requires { (path.order ≤ 7) × ((axis * path.segments + path.segments) * (path.order + 1) ≤ length coeffs.now)
-        × (at + length (axis_lines path coeffs.now axis) ≤ length out.old) }
-    ensures { Wrote out.old at (axis_lines path coeffs.now axis) result out.new }
+        × HasRoom page.old (axis_lines path coeffs.now axis) }
+    ensures { Wrote page.old (axis_lines path coeffs.now axis) page.new }
 {
     let segments = path.segments;
     let cells = path.order + 1;
-    let mut end = at;
-    let mut i = 0;
-    while i < segments {
-        let from = (axis * segments + i) * cells;
-        end = put_segment(out, end, axis, i, &coeffs[from..from + cells]);
-        i += 1;
+    for segment in 0..segments {
+        let from = (axis * segments + segment) * cells;
+        put_segment(page, axis, segment, &coeffs[from..from + cells]);
     }
-    end
 }
 
 // J10, J11: a table, and how many bytes that is.
@@ -36,12 +33,10 @@ pub fn write_table(path: PathRecord, coeffs: &[f64], out: &mut [u8]) -> usize
     ensures { (result ≡ length (table_output path coeffs.now))
         × (out.new ≡ table_output path coeffs.now ++ drop (length (table_output path coeffs.now)) out.old) }
 {
-    let axes = path.axes;
-    let mut end = put_table_line(out, path);
-    let mut axis = 0;
-    while axis < axes {
-        end = put_axis(out, end, path, axis, coeffs);
-        axis += 1;
+    let mut page = Page::new(out);
+    put_table_line(&mut page, path);
+    for axis in 0..path.axes {
+        put_axis(&mut page, path, axis, coeffs);
     }
-    end
+    page.at
 }
