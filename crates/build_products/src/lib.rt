@@ -10,18 +10,16 @@ ghost use Rattle.rules.specs.Floats.{◌⊗◌, ◌!◌, sum_of};
 ghost use Rattle.rules.specs.Solve.{times, minus};
 ghost use Rattle.build_products.specs.Columns.{transposed};
 
-// R3: the sum of m products: the numbers of a from `at` on, each `step` behind the one before, times those of v.
-pub fn dot(m: usize, a: &[f64], at: usize, step: usize, v: &[f64]) -> f64
-    requires { (1 ≤ m) × (at + (m * step) < length a.now + step) × (length v.now ≡ m) }
-    ensures { result ≡ sum_of m (λ j. a.now ! (at + j * step) ⊗ v.now ! j) }
+// R3: the sum of the products: the numbers of a from `at` on, each `step` behind the one before, times those of v.
+pub fn dot(a: &[f64], at: usize, step: usize, v: &[f64]) -> f64
+    requires { (1 ≤ length v.now) × (at + (length v.now * step) < length a.now + step) }
+    ensures { result ≡ sum_of (length v.now) (λ j. a.now ! (at + j * step) ⊗ v.now ! j) }
 {
     let mut total = a[at] * v[0];
     let mut place = at;
-    let mut j = 1;
-    while j < m {
+    for x in &v[1..] {
         place += step;
-        total = total + a[place] * v[j];
-        j += 1;
+        total += a[place] * x;
     }
     total
 }
@@ -31,10 +29,8 @@ pub fn subtract_product(m: usize, a: &[f64], u: &[f64], v: &mut [f64])
     requires { (1 ≤ m) × (length a.now ≡ m * m) × (length u.now ≡ m) × (length v.old ≡ m) }
     ensures { v.new ≡ minus m v.old (times m (transposed m a.now) u.now) }
 {
-    let mut i = 0;
-    while i < m {
-        v[i] = v[i] - dot(m, a, i, m, u);
-        i += 1;
+    for (i, x) in v.iter_mut().enumerate() {
+        *x -= dot(a, i, m, u);
     }
 }
 
