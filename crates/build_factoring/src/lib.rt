@@ -6,7 +6,7 @@ ghost use Rattle.std.specs.Prelude.{◌≡◌, ◌+◌, ◌-◌, ◌*◌, ◌<�
 ghost use Rattle.build_factoring.specs.Steps.{eliminated_to};
 ghost use Rattle.rules.specs.Solve.{entry, eliminated, factor};
 
-use build_pivots::{exchange_entries, exchange_rows, identity, pivot_row};
+use build_pivots::{exchange_entries, identity, pivot_row};
 
 // R14, R15: row i past row k: the multiplier takes the place of the entry in column k, and what it comes to is
 // subtracted from the entries to the right. Whatever matrix b was done in the rows before i, is then
@@ -19,10 +19,8 @@ fn eliminate_row(m: usize, a: &mut [f64], k: usize, i: usize, reciprocal: f64)
 {
     let multiplier = a[i * m + k] * reciprocal;
     a[i * m + k] = multiplier;
-    let mut j = k + 1;
-    while j < m {
-        a[i * m + j] = a[i * m + j] - multiplier * a[k * m + j];
-        j += 1;
+    for j in k + 1..m {
+        a[i * m + j] -= multiplier * a[k * m + j];
     }
 }
 
@@ -32,10 +30,8 @@ fn eliminate(m: usize, a: &mut [f64], k: usize)
     ensures { a.new ≡ (eliminated m k (record { entries = a.old; rows = [] })).entries }
 {
     let reciprocal = 1.0 / a[k * m + k];
-    let mut i = k + 1;
-    while i < m {
+    for i in k + 1..m {
         eliminate_row(m, a, k, i, reciprocal);
-        i += 1;
     }
 }
 
@@ -46,12 +42,10 @@ pub fn factor(m: usize, a: &mut [f64], rows: &mut [usize])
         × (rows.new ≡ (factor m a.old).rows) }
 {
     identity(rows);
-    let mut k = 0;
-    while k < m {
+    for k in 0..m {
         let p = pivot_row(m, a, k);
         exchange_entries(m, a, k, p);
-        exchange_rows(rows, k, p);
+        rows.swap(k, p);
         eliminate(m, a, k);
-        k += 1;
     }
 }

@@ -7,17 +7,17 @@ use Prim.Native.Nat.{ℕ, ◌+◌, ◌*◌, ◌<◌, ◌≤◌}
 use native.Mathlib.Omega.{arith}
 use borrow.Author.Tests.{eqb-true, eqb-false, eq-eqb, ne_eqb, lt-ltb, le-ltb}
 use lib.Dec.{eqb, ltb}
-use lib.ListN.{length, get_or, set, length-set}
-use lib.Seq.{ext_get_or, get_or-set_same, get_or-set_other}
-use lib.Ieee.{Float, nan}
+use lib.ListN.{length, get_or}
+use lib.Seq.{ext_get_or}
+use lib.Ieee.{Float}
+use Rattle.std.specs.List.{SwappedAt}
 use Rattle.rules.specs.Floats.{◌!◌, +0}
 use Rattle.law_lists.specs.Lists.{listed}
 use Rattle.rules.specs.Solve.{entry, matrix, exchange}
 use Rattle.law_lists.proofs.Lists.{length-listed}
 use Rattle.law_lists.proofs.Filling.{listed_at, lt_or_le}
 use Rattle.rules.proofs.Matrices.{matrix_of, matrix_at, matrix_ext}
-use Rattle.law_lists.proofs.Places.{cell_inside, place_same}
-use Rattle.rules.proofs.Cells.{entry_read}
+use Rattle.law_lists.proofs.Places.{place_same}
 
 same_or_not : (i j : ℕ) → (i ≡ j) ⊎ (i ≡ j → ⊥)
 same_or_not i j = go (eqb i j) refl
@@ -55,24 +55,14 @@ module _ (k p : ℕ) where
   pub exchange_below : (n i : ℕ) → k < n → p < n → i < n → exchange k p i < n
   exchange_below n i h l b = exchange_cases (λ x y. y < n) i h (λ e. l) (λ e o. b)
 
-module _ {A : Type 0} (d : A) (xs : List A) (k p : ℕ) (h : k < length xs) (l : p < length xs) where
-  abbrev first : List A
-  first = set xs k (get_or xs p d)
+-- two cells swapped: each place has what the exchange says
+module _ {A : Type 0} (d : A) (k p : ℕ) (xs ys : List A) (e : length ys ≡ length xs) (s : SwappedAt xs ys k p) where
+  swapped_at : (i : ℕ) → get_or ys i d ≡ get_or xs (exchange k p i) d
+  swapped_at i = exchange_cases k p (λ x y. get_or ys x d ≡ get_or xs y d) i (s.1 d) (λ n. s.0 d) (λ n o. s.2 i d n o)
 
-  abbrev swapped : List A
-  swapped = set first p (get_or xs k d)
-
-  swapped_at : (i : ℕ) → get_or swapped i d ≡ get_or xs (exchange k p i) d
-  swapped_at i =
-      exchange_cases k p (λ x y. get_or swapped x d ≡ get_or xs y d) i
-      (get_or-set_same first p (get_or xs k d) d (rw length-set l))
-      (λ e. get_or-set_other first p k (get_or xs k d) d e ∙ get_or-set_same xs k (get_or xs p d) d h)
-      (λ e o. get_or-set_other first p i (get_or xs k d) d o ∙ get_or-set_other xs k i (get_or xs p d) d e)
-
-  pub swapped_listed : swapped ≡ listed (length xs) (λ i. get_or xs (exchange k p i) d)
+  pub swapped_listed : ys ≡ listed (length xs) (λ i. get_or xs (exchange k p i) d)
   swapped_listed =
-      let e : length swapped ≡ length xs = simp length-set in
-      ext_get_or d swapped _ (e ∙ sym (length-listed (length xs) _)) (λ i b. swapped_at i ∙ sym (listed_at d (length xs) _ i (rw e at b)))
+      ext_get_or d ys _ (e ∙ sym (length-listed (length xs) _)) (λ i b. swapped_at i ∙ sym (listed_at d (length xs) _ i (rw e at b)))
 
 -- the rows k and p of a matrix exchanged in the columns below j
 abbrev pub exchanged_to : ℕ → List Float → ℕ → ℕ → ℕ → ℕ → ℕ → Float
@@ -92,19 +82,13 @@ module _ (m : ℕ) (a₀ : List Float) (k p : ℕ) where
       (λ e. exchange_first (k * m + j) (p * m + j))
       (λ e o. exchange_other (k * m + j) (p * m + j) (i * m + j) (λ q. e (place_same l l q).0) (λ q. o (place_same l l q).0))
 
-  pub exchange_step : (j : ℕ) (a : List Float) → j < m → k < m → p < m → length a ≡ m * m → a ≡ matrix m m (exchanged_to m a₀ k p j)
-      → set (set a (k * m + j) (get_or a (p * m + j) nan)) (p * m + j) (get_or a (k * m + j) nan) ≡ matrix m m (exchanged_to m a₀ k p (j + 1))
-  exchange_step j a b h l n e =
-      rw (entry_read m a p j n l b, entry_read m a k j n h b)
-      (sym (matrix_of m m next (simp length-set n))
+  pub exchange_step : (j : ℕ) (a next : List Float) → j < m → k < m → p < m → length a ≡ m * m → a ≡ matrix m m (exchanged_to m a₀ k p j)
+      → length next ≡ length a → SwappedAt a next (k * m + j) (p * m + j) → next ≡ matrix m m (exchanged_to m a₀ k p (j + 1))
+  exchange_step j a next b h l n e q s =
+      sym (matrix_of m m next (q ∙ n))
       ∙ matrix_ext m m (entry m next) _
-      (λ i c v w.
-      swapped_at +0 a (k * m + j) (p * m + j) (rw n (cell_inside m h b)) (rw n (cell_inside m l b)) (i * m + c)
-      ∙ cell i c v w (same_or_not c j) (lt_or_le c j)))
+      (λ i c v w. swapped_at +0 (k * m + j) (p * m + j) a next q s (i * m + c) ∙ cell i c v w (same_or_not c j) (lt_or_le c j))
     where
-      next : List Float
-      next = swapped +0 a (k * m + j) (p * m + j) (rw n (cell_inside m h b)) (rw n (cell_inside m l b))
-
       at : (i c : ℕ) → i < m → c < m → entry m a i c ≡ exchanged_to m a₀ k p j i c
       at i c v w = rw e (matrix_at m m (exchanged_to m a₀ k p j) i c v w)
 
