@@ -2,15 +2,8 @@
 // all of them. What the functions answer is said by the definitions of crates/theorem_pivots/specs/Repeating.antt.
 #![tactic(auto)]
 
-ghost use Rattle.std.specs.Prelude.{◌≡◌, min};
+ghost use Rattle.std.specs.Prelude.{◌≡◌};
 ghost use Rattle.theorem_pivots.specs.Repeating.{settled, distinct};
-
-// The lesser of two numbers.
-fn least(a: usize, b: usize) -> usize
-    ensures { result ≡ min a b }
-{
-    if a < b { a } else { b }
-}
 
 // Z3: a node, among the first few, that has the matrix of inner node i. At order 7 the matrices go round in a cycle of 57; at orders
 // 3 and 5 each is the one before it in the end.
@@ -21,27 +14,21 @@ pub fn settled(m: usize, i: usize) -> usize
     if i < 14 {
         return i;
     }
-    if m == 1 {
-        return 14;
+    match m {
+        1 => 14,
+        2 => i.min(23),
+        _ if i < 34 => i,
+        _ => 34 + (i - 34) % 57,
     }
-    if m == 2 {
-        return least(i, 23);
-    }
-    if i < 34 {
-        return i;
-    }
-    34 + (i - 34) % 57
 }
 
 // Z3: how many nodes have all the matrices of n inner nodes: 15, 24 and 91 at most.
 pub fn distinct(m: usize, n: usize) -> usize
     ensures { result ≡ distinct m n }
 {
-    if m == 1 {
-        return least(n, 15);
+    match m {
+        1 => n.min(15),
+        2 => n.min(24),
+        _ => n.min(91),
     }
-    if m == 2 {
-        return least(n, 24);
-    }
-    least(n, 91)
 }
