@@ -1,18 +1,14 @@
--- What solving is lent, and the single step of `forward` of crates/rules/specs/Solve.antt, for the function that makes it. A
--- reader of the public contracts needs neither. Assumes nothing.
-use Rattle.std.specs.Prelude.{◌≡◌, ℕ, ◌*◌, cond, List, length, leb, Float}
+-- What a factored matrix that is lent holds, and the single step of `forward` of crates/rules/specs/Solve.antt, for the function that
+-- makes it. A reader of the public contracts does not need the step. Assumes nothing.
+use Rattle.std.specs.Prelude.{ℕ, cond, List, leb, Float}
 use Rattle.rules.specs.Floats.{◌⊖◌, ◌⊗◌, ◌!◌}
 use Rattle.law_lists.specs.Lists.{listed}
-use Rattle.rules.specs.Solve.{entry}
-use Rattle.build_products.specs.Columns.{Below}
+use Rattle.rules.specs.Solve.{entry, Factored}
+use Rattle.build_forward.specs.declared.Factored.{Factored as Lent}
 
--- what solving is lent: a factored matrix with its rows, a right side, and room for the result
-pub record Solvable (m : ℕ) (entries : List Float) (rows : List ℕ) (b y : List Float) : Type 0 where
-  pub entries_length : length entries ≡ m * m
-  pub rows_length : length rows ≡ m
-  pub rows_below : Below m rows
-  pub b_length : length b ≡ m
-  pub y_length : length y ≡ m
+-- the factored matrix of the definitions that is lent
+abbrev pub factors_of : Lent → Factored
+factors_of f = record { entries = f.entries.now; rows = f.rows.now }
 
 -- the step of `forward` at row k: what it has at row i, and the whole
 abbrev pub forward_cell : ℕ → List Float → List Float → ℕ → ℕ → Float

@@ -3,47 +3,54 @@
 // definitions of crates/rules/specs/Solve.antt, for every m.
 #![tactic(auto)]
 
-ghost use Rattle.std.specs.Prelude.{◌≡◌, ◌*◌, ◌<◌, length, get_or};
-ghost use Rattle.rules.specs.Floats.{◌!◌};
-ghost use Rattle.law_lists.specs.Lists.{listed};
-ghost use Rattle.rules.specs.Solve.{forward};
+ghost use Rattle.std.specs.Prelude.{◌≡◌, ◌*◌, ◌<◌, length};
 ghost use Rattle.build_products.specs.Columns.{Below};
-ghost use Rattle.build_forward.specs.Steps.{Solvable, forward_step};
 
-// The right side with its rows exchanged.
-fn permuted(rows: &[usize], b: &[f64], out: &mut [f64])
-    requires { (length out.old ≡ length rows.now) × Below (length b.now) rows.now }
-    ensures { out.new ≡ listed (length rows.now) (λ i. b.now ! get_or rows.now i 0) }
-{
-    let mut i = 0;
-    while i < rows.len() {
-        out[i] = b[rows[i]];
-        i += 1;
-    }
+// A factored matrix of m rows, lent to be solved with: its entries, and which row of the matrix each row was.
+#[derive(Clone, Copy)]
+pub struct Factored<'a> {
+    pub m: usize,
+    pub entries: &'a [f64],
+    pub rows: &'a [usize],
+    pub ghost entries_length: { length entries.now ≡ m * m },
+    pub ghost rows_length: { length rows.now ≡ m },
+    pub ghost rows_below: { Below m rows.now },
 }
 
-// R16, R18: the number of row k is found: its products are subtracted from the rows below.
-fn forward_step(m: usize, entries: &[f64], k: usize, y: &mut [f64])
-    requires { (length entries.now ≡ m * m) × (k < m) × (length y.old ≡ m) }
-    ensures { y.new ≡ forward_step m entries.now y.old k }
-{
-    let x = y[k];
-    let mut i = k + 1;
-    while i < m {
-        y[i] = y[i] - entries[i * m + k] * x;
-        i += 1;
-    }
-}
+impl Factored<'_> {
+    ghost use Rattle.std.specs.Prelude.{◌≡◌, ◌<◌, length};
+    ghost use Rattle.rules.specs.Solve.{forward};
+    ghost use Rattle.build_forward.specs.Steps.{factors_of, forward_step};
 
-// R16: "Solve forward from the first row".
-pub fn forward(m: usize, entries: &[f64], rows: &[usize], b: &[f64], y: &mut [f64])
-    requires { Solvable m entries.now rows.now b.now y.old }
-    ensures { y.new ≡ forward m (record { entries = entries.entry.now; rows = rows.now }) b.now m }
-{
-    permuted(rows, b, y);
-    let mut k = 0;
-    while k < m {
-        forward_step(m, entries, k, y);
-        k += 1;
+    // The right side with its rows exchanged.
+    fn exchange_rows(&self, b: &[f64], out: &mut [f64])
+        requires { (length b.now ≡ self.now.m) × (length out.old ≡ self.now.m) }
+        ensures { out.new ≡ forward self.now.m (factors_of self.now) b.now 0 }
+    {
+        for (i, row) in self.rows.iter().enumerate() {
+            out[i] = b[*row];
+        }
+    }
+
+    // R16, R18: the number of row k is found: its products are subtracted from the rows below.
+    fn forward_step(&self, k: usize, y: &mut [f64])
+        requires { (k < self.now.m) × (length y.old ≡ self.now.m) }
+        ensures { y.new ≡ forward_step self.now.m self.now.entries.now y.old k }
+    {
+        let x = y[k];
+        for i in k + 1..self.m {
+            y[i] -= self.entries[i * self.m + k] * x;
+        }
+    }
+
+    // R16: "Solve forward from the first row".
+    pub fn forward(&self, b: &[f64], y: &mut [f64])
+        requires { (length b.now ≡ self.now.m) × (length y.old ≡ self.now.m) }
+        ensures { y.new ≡ forward self.now.m (factors_of self.now) b.now self.now.m }
+    {
+        self.exchange_rows(b, y);
+        for k in 0..self.m {
+            self.forward_step(k, y);
+        }
     }
 }

@@ -3,52 +3,47 @@
 #![tactic(auto)]
 
 ghost use Rattle.std.specs.Prelude.{◌≡◌, ◌*◌, ◌<◌, length};
-ghost use Rattle.rules.specs.Solve.{forward, solve, solve_matrix};
-ghost use Rattle.build_products.specs.Columns.{transposed, Below};
-ghost use Rattle.build_forward.specs.Steps.{Solvable};
+ghost use Rattle.rules.specs.Solve.{solve, solve_matrix};
+ghost use Rattle.build_products.specs.Columns.{transposed};
+ghost use Rattle.build_forward.specs.Steps.{factors_of};
 ghost use Rattle.build_solving.specs.Steps.{backward_step};
 
-use build_forward::forward;
+use build_forward::Factored;
 
 // R17, R18: row k is solved by division, and its products are subtracted from the rows above.
-fn backward_step(m: usize, entries: &[f64], k: usize, y: &mut [f64])
-    requires { (length entries.now ≡ m * m) × (k < m) × (length y.old ≡ m) }
-    ensures { y.new ≡ backward_step m entries.now y.old k }
+fn backward_step(matrix: &Factored, k: usize, y: &mut [f64])
+    requires { (k < matrix.now.m) × (length y.old ≡ matrix.now.m) }
+    ensures { y.new ≡ backward_step matrix.now.m matrix.now.entries.now y.old k }
 {
-    let x = y[k] / entries[k * m + k];
-    let mut i = 0;
-    while i < k {
-        y[i] = y[i] - entries[i * m + k] * x;
-        i += 1;
+    let m = matrix.m;
+    let x = y[k] / matrix.entries[k * m + k];
+    for i in 0..k {
+        y[i] -= matrix.entries[i * m + k] * x;
     }
     y[k] = x;
 }
 
 // R17: "then back from the last by division": m numbers solved, from b into y.
-pub fn solve(m: usize, entries: &[f64], rows: &[usize], b: &[f64], y: &mut [f64])
-    requires { Solvable m entries.now rows.now b.now y.old }
-    ensures { y.new ≡ solve m (record { entries = entries.entry.now; rows = rows.now }) b.now }
+pub fn solve(matrix: &Factored, b: &[f64], y: &mut [f64])
+    requires { (length b.now ≡ matrix.now.m) × (length y.old ≡ matrix.now.m) }
+    ensures { y.new ≡ solve matrix.now.m (factors_of matrix.now) b.now }
 {
-    forward(m, entries, rows, b, y);
-    let mut d = 0;
-    while d < m {
-        let k = m - (d + 1);
-        backward_step(m, entries, k, y);
-        d += 1;
+    matrix.forward(b, y);
+    for k in (0..matrix.m).rev() {
+        backward_step(matrix, k, y);
     }
 }
 
 // R10: a matrix solved, column by column, from c into out; both are kept by columns.
-pub fn solve_matrix(m: usize, entries: &[f64], rows: &[usize], c: &[f64], out: &mut [f64])
-    requires { (length entries.now ≡ m * m) × (length rows.now ≡ m) × Below m rows.now × (length c.now ≡ m * m) × (length out.old ≡ m * m) }
+pub fn solve_matrix(matrix: &Factored, c: &[f64], out: &mut [f64])
+    requires { (length c.now ≡ matrix.now.m * matrix.now.m) × (length out.old ≡ matrix.now.m * matrix.now.m) }
     ensures { out.new
-        ≡ transposed m (solve_matrix m (record { entries = entries.entry.now; rows = rows.now }) (transposed m c.now)) }
+        ≡ transposed matrix.now.m (solve_matrix matrix.now.m (factors_of matrix.now) (transposed matrix.now.m c.now)) }
 {
-    let mut j = 0;
-    while j < m {
+    let m = matrix.m;
+    for j in 0..m {
         let at = j * m;
         let end = at + m;
-        solve(m, entries, rows, &c[at..end], &mut out[at..end]);
-        j += 1;
+        solve(matrix, &c[at..end], &mut out[at..end]);
     }
 }
