@@ -1,22 +1,27 @@
 -- The matrices of the inner nodes, from the tables and the nodes before, which are kept by columns; and their lengths. Assumes nothing.
 use mathlib.Core.Path.{◌≡◌, refl, sym, ap, ◌∙◌, subst}
 use mathlib.Core.List.{List, []}
-use Prim.Native.Nat.{ℕ, zero, suc, ◌+◌, ◌*◌, ◌-◌, ◌<◌}
+use Prim.Native.Nat.{ℕ, zero, suc, ◌+◌, ◌*◌, ◌-◌, ◌<◌, ◌≤◌}
 use native.Mathlib.Omega.{arith}
 use lib.ListN.{length, get_or, take, drop}
 use lib.Ieee.{Float}
 use Rattle.rules.specs.Floats.{◌⊖◌, ◌!◌}
-use Rattle.rules.specs.Tables.{A, B, C}
+use Rattle.rules.specs.Tables.{B, C}
 use Rattle.rules.specs.Solve.{Factored, entry, matrix, column, factor, solve, solve_matrix, node_matrix, node_factors, solved_c_of}
 use Rattle.law_lists.proofs.Filling.{listed_ext, parts_at}
 use Rattle.rules.proofs.Matrices.{matrix_ext, length-matrix}
-use Rattle.build_products.specs.Columns.{transposed, HoldsA, HoldsB}
+use Rattle.build_products.specs.Columns.{transposed}
 use Rattle.build_nodes.specs.NodeLists.{node_solved}
 use Rattle.build_nodes.specs.Steps.{next_entry, SolvedTo}
 use Rattle.build_factoring.proofs.Factors.{length-factor, length_rows}
+use Rattle.law_lists.proofs.Lent.{part_size, part_length}
 use Rattle.law_lists.proofs.PartedList.{Parted}
 use Rattle.build_products.proofs.Sums.{sum_of_ext}
 use Rattle.build_products.proofs.Transposed.{transposed_at, length-transposed}
+
+-- a part of k cells, as the code lends it
+pub lent_length : {A : Type 0} (at k : ℕ) (xs : List A) → at + k ≤ length xs → length (take (at + k - at) (drop at xs)) ≡ k
+lent_length at k xs h = ap length (part_size at k xs) ∙ part_length at k xs h
 
 module _ (m : ℕ) where
   -- by columns and by rows again
@@ -33,12 +38,10 @@ module _ (m : ℕ) where
   unfolding node_matrix
   first_matrix = refl
 
-  next_matrix : (i : ℕ)
-      → matrix m m (next_entry m (transposed m (transposed m (A m))) (B m) (transposed m (transposed m (solved_c_of m i)))) ≡ node_matrix m (suc i)
+  next_matrix : (i : ℕ) → matrix m m (next_entry m (transposed m (transposed m (solved_c_of m i)))) ≡ node_matrix m (suc i)
   unfolding node_matrix solved_c_of node_factors
   next_matrix i =
-      matrix_ext m m _ _
-      (λ r c h l. ap (λ (x : Float). entry m (B m) r c ⊖ x) (sum_of_ext m _ _ (λ k b. rw (twice (A m) r k h b, twice (solved_c_of m i) k c b l))))
+      matrix_ext m m _ _ (λ r c h l. ap (λ (x : Float). entry m (B m) r c ⊖ x) (sum_of_ext m _ _ (λ k b. rw (twice (solved_c_of m i) k c b l))))
 
   length-node : length (B m) ≡ m * m → (i : ℕ) → length (node_matrix m i) ≡ m * m
   unfolding node_matrix
@@ -64,12 +67,11 @@ module _ (m : ℕ) where
       ∙ parts_at (m * m) (λ j. transposed m (solved_c_of m j)) (suc i) solved i (λ j l. length_solved j) (omega arith)
 
   -- a node past the first, from the part of the node before
-  pub node_after : (i j : ℕ) (a b solved : List Float) → suc j ≡ i → HoldsA m a → HoldsB m b → SolvedTo m i solved
-      → let at = j * (m * m) in
-      matrix m m (next_entry m (transposed m a) b (transposed m (take (at + m * m - at) (drop at solved)))) ≡ node_matrix m i
-  node_after i j a b solved e s t h =
+  pub node_after : (i j : ℕ) (solved : List Float) → suc j ≡ i → SolvedTo m i solved
+      → let at = j * (m * m) in matrix m m (next_entry m (transposed m (take (at + m * m - at) (drop at solved)))) ≡ node_matrix m i
+  node_after i j solved e h =
       let size : j * (m * m) + m * m - j * (m * m) ≡ m * m = omega arith in
-      rw (size, solved_part j solved (subst (λ (k : ℕ). SolvedTo m k solved) (sym e) h), s.is, t.is) (next_matrix j) ∙ ap (node_matrix m) e
+      rw (size, solved_part j solved (subst (λ (k : ℕ). SolvedTo m k solved) (sym e) h)) (next_matrix j) ∙ ap (node_matrix m) e
 
   -- what solving with a node's factors gives
   pub solved_node : (i : ℕ) (a c entries : List Float) (rows : List ℕ) {out : List Float} → a ≡ node_matrix m i
