@@ -5,7 +5,7 @@ ghost use Rattle.std.specs.Prelude.{◌≡◌, ◌^◌, ◌≤◌, true, ◌&&�
 ghost use Rattle.rules.specs.SheetNumbers.{fresh, belongs, left, passed, with_digit, taken};
 
 use rules::NumberReading;
-use sheet_decimals::{digit_from, wide};
+use sheet_decimals::{LIMIT, digit_from};
 
 // N2: how far a reading is.
 pub const FRESH: u8 = 0;
@@ -22,20 +22,11 @@ pub const FAULTED: u8 = 5;
 
 pub const LARGE: u8 = 6;
 
-// J22: 2^40.
-pub const LIMIT: u64 = 1_099_511_627_776;
-
 // The byte is not part of the number: another stage, at the same place.
 fn left(reading: NumberReading, stage: u8) -> NumberReading
     ensures { result ≡ left reading stage }
 {
-    NumberReading {
-        start: reading.start,
-        next: reading.next,
-        size: reading.size,
-        stage,
-        minus: reading.minus,
-    }
+    NumberReading { stage, ..reading }
 }
 
 // The byte is a minus or a 0: another stage, one place on.
@@ -43,15 +34,15 @@ fn passed(reading: NumberReading, stage: u8, minus: u8) -> NumberReading
     ensures { result ≡ passed reading stage minus }
 {
     NumberReading {
-        start: reading.start,
-        next: std::num::wrapping_add_usize(reading.next, 1),
-        size: reading.size,
+        next: reading.next.wrapping_add(1),
         stage,
         minus,
+        ..reading
     }
 }
 
 // N1, N8: the byte is a digit. One that takes the size past 2^40 is not added, so that no sum overflows.
+#[tactic(auto, unfolding(rules::specs::SheetNumbers::with_digit))]
 fn with_digit(reading: NumberReading, d: u64) -> NumberReading
     requires { (reading.size ≤ 2 ^ 40) × (d ≤ 9) }
     ensures { result ≡ with_digit reading d }
@@ -61,11 +52,10 @@ fn with_digit(reading: NumberReading, d: u64) -> NumberReading
         return left(reading, LARGE);
     }
     NumberReading {
-        start: reading.start,
-        next: std::num::wrapping_add_usize(reading.next, 1),
+        next: reading.next.wrapping_add(1),
         size: sum,
         stage: DIGITS,
-        minus: reading.minus,
+        ..reading
     }
 }
 
@@ -73,10 +63,7 @@ fn with_digit(reading: NumberReading, d: u64) -> NumberReading
 fn is_first(stage: u8, b: u8, that: u8) -> bool
     ensures { result ≡ (stage == fresh && b == that) }
 {
-    if stage != FRESH {
-        return false;
-    }
-    b == that
+    stage == FRESH && b == that
 }
 
 // Whether a byte is a digit of the number.
@@ -100,7 +87,7 @@ pub fn taken(reading: NumberReading, b: u8) -> NumberReading
 {
     let stage = reading.stage;
     if belongs(stage, b) {
-        return with_digit(reading, wide(b - b'0'));
+        return with_digit(reading, u64::from(b - b'0'));
     }
     if is_first(stage, b, b'-') {
         return passed(reading, MINUS, 1);

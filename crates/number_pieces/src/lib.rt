@@ -6,30 +6,26 @@ ghost use Rattle.std.specs.Prelude.{◌≡◌, true, ◌^◌, ◌≤◌, take, d
 ghost use Rattle.rules.specs.SheetNumbers.{sound, is_open, go_on};
 ghost use Rattle.theorem_numbers.specs.Pieces.{Settled, is_more};
 
-use number_byte::{DIGITS, LIMIT, taken};
+use number_byte::{DIGITS, taken};
 use rules::NumberReading;
-use sheet_decimals::{digit_from, wide};
+use sheet_decimals::{LIMIT, digit_from};
 
 // N7: whether sign and size are such as a reading can have made.
+#[tactic(auto, unfolding(rules::specs::SheetNumbers::sound))]
 pub fn is_sound(reading: NumberReading) -> bool
     ensures is { result ≡ sound reading }
     ensures bounds { result ≡ true → reading.size ≤ 2 ^ 40 }
 {
-    if 1 < reading.minus {
-        return false;
-    }
-    reading.size <= LIMIT
+    reading.minus <= 1 && reading.size <= LIMIT
 }
 
 // N6, N7: whether another byte changes the record.
+#[tactic(auto, unfolding(rules::specs::SheetNumbers::is_open))]
 fn is_open(reading: NumberReading) -> bool
     ensures is { result ≡ is_open reading }
     ensures bounds { result ≡ true → reading.size ≤ 2 ^ 40 }
 {
-    if DIGITS < reading.stage {
-        return false;
-    }
-    is_sound(reading)
+    reading.stage <= DIGITS && is_sound(reading)
 }
 
 // The byte at a place, where there is one and the record takes it.
@@ -51,10 +47,7 @@ fn is_more(size: u64, b: u8) -> bool
     requires { size ≤ 2 ^ 40 }
     ensures { result ≡ is_more size b }
 {
-    if !digit_from(b'0', b) {
-        return false;
-    }
-    size * 10 + wide(b - b'0') <= LIMIT
+    digit_from(b'0', b) && size * 10 + u64::from(b - b'0') <= LIMIT
 }
 
 // The bytes from a place on, of a record that is in its digits, or takes none of them.
@@ -69,14 +62,12 @@ pub fn digits(reading: NumberReading, bytes: &[u8], from: usize) -> NumberReadin
         return reading;
     }
     let mut kept = reading;
-    let mut i = from;
-    while i < bytes.len() {
+    for i in from..bytes.len() {
         let b = bytes[i];
         if !is_more(kept.size, b) {
             return taken(kept, b);
         }
         kept = taken(kept, b);
-        i += 1;
     }
     kept
 }

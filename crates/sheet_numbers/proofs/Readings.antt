@@ -1,22 +1,26 @@
 -- One step of each of the judge's readings, at a place of the text. Assumes nothing.
-use Prim.{tt}
 use mathlib.Core.Path.{◌≡◌, refl, sym, ap, ◌∙◌}
 use mathlib.Core.Bool.{true, false}
 use mathlib.Core.List.{List}
 use Prim.Native.Nat.{ℕ, zero, suc, ◌+◌, ◌-◌, ◌^◌, ◌<◌, ◌≤◌}
 use native.Mathlib.Omega.{arith}
-use lib.IntN.{ℤ, pos, negsuc, neg_ℤ, nat_abs}
+use lib.IntN.{ℤ, pos, negsuc, neg_ℤ, ◌-ℤ◌, nat_abs, +ℤ_idl}
 use lib.ListN.{length, get_or, drop, drop_of_length-le}
+use mir.Facts.{to_z-of_z}
+use mir.Syntax.{w64}
+use mir.Val.{SFits, to_z, of_z}
 use borrow.Author.Tests.{eq-eqb, ne_eqb}
+use Rattle.std.proofs.Common.{Result, Ok, Err}
 use Rattle.rules.specs.Sheets.{within}
+use Rattle.rules.specs.declared.SheetError.{SheetError}
 use Rattle.rules.specs.SheetReading as reading
 use Rattle.sheet_laws.proofs.Texts.{drop_here}
-use Rattle.sheet_decimals.specs.declared.Decimal.{Decimal}
-use Rattle.sheet_decimals.specs.declared.Decimal.TheVariants.{Worth, Missing, Over}
-use Rattle.sheet_decimals.specs.Says.{decimal_of, up_to, DecimalInside, DecimalSmall}
-use Rattle.sheet_numbers.specs.declared.Whole.{Whole}
-use Rattle.sheet_numbers.specs.declared.Whole.TheVariants as whole
-use Rattle.sheet_numbers.specs.Says.{whole_of, PositiveSays, plain_of, negated_of, WholeInside, WholeSmall}
+use Rattle.sheet_reading.specs.declared.Read.{Read}
+use Rattle.sheet_reading.specs.Says.{read_of, stop_at}
+use Rattle.sheet_decimals.specs.declared.DecimalError.{DecimalError}
+use Rattle.sheet_decimals.specs.declared.DecimalError.TheVariants.{Missing, Over}
+use Rattle.sheet_decimals.specs.Says.{decimal_of, up_to}
+use Rattle.sheet_numbers.specs.Says.{PositiveSays, plain_of}
 
 -- ---- digits that do not lead with a 0
 
@@ -36,45 +40,41 @@ module _ (limit : ℕ) (over : List ℕ → reading.Read ℕ) (s : List ℕ) (i 
     unfolding reading.positive
     positive_on e = rw (drop_here s i h, e, reading.positive)
 
-pub decimal_least : (p : Decimal) (a b limit : ℕ) → a ≤ b → DecimalSmall b limit p → DecimalSmall a limit p
-decimal_least (Worth v n) a b limit l h = omega arith
-decimal_least (Missing i) a b limit l h = tt
-decimal_least (Over i) a b limit l h = tt
+-- ---- a number up to 2^40 and its opposite, as an i64
 
--- ---- digits as a number that starts at i
+pub near_fits : (z : ℤ) → nat_abs z ≤ 2 ^ 40 → SFits w64 z × SFits w64 (neg_ℤ z)
+near_fits (pos zero) h = (record { sfits = omega arith }, record { sfits = omega arith })
+near_fits (pos (suc n)) h = (record { sfits = omega arith }, record { sfits = omega arith })
+near_fits (negsuc n) h = (record { sfits = omega arith }, record { sfits = omega arith })
 
-plain_then : (s : List ℕ) (i : ℕ) (p : Decimal)
-    → whole_of s (plain_of i p) ≡ reading.then (decimal_of (λ r. reading.stop 4 (drop i s)) s p) (λ n rest. reading.got (pos n) rest)
-unfolding reading.then
-plain_then s i (Worth v n) = refl
-plain_then s i (Missing a) = refl
-plain_then s i (Over a) = refl
+abbrev pub kept : ℤ → ℤ
+kept z = to_z w64 (of_z w64 z)
 
-negated_then : (s : List ℕ) (i : ℕ) (p : Decimal)
-    → whole_of s (negated_of (plain_of i p)) ≡ reading.then (decimal_of (λ r. reading.stop 4 (drop i s)) s p) (λ n rest. reading.got (neg_ℤ (pos n)) rest)
-unfolding reading.then
-negated_then s i (Worth v n) = refl
-negated_then s i (Missing a) = refl
-negated_then s i (Over a) = refl
+pub near_kept : (z : ℤ) → nat_abs z ≤ 2 ^ 40 → kept z ≡ z
+near_kept z h = to_z-of_z (near_fits z h).0
 
-pub plain_small : (i : ℕ) (p : Decimal) → DecimalSmall 1 (2 ^ 40) p → WholeSmall (plain_of i p)
-plain_small i (Worth v n) h = h.1
-plain_small i (Missing a) h = tt
-plain_small i (Over a) h = tt
+pub kept_minus : (z : ℤ) → nat_abs z ≤ 2 ^ 40 → kept (pos 0 -ℤ kept z) ≡ neg_ℤ z
+kept_minus z h = rw (near_kept z h, +ℤ_idl (neg_ℤ z)) (to_z-of_z (near_fits z h).1)
 
-plain_inside : (i j len : ℕ) (p : Decimal) → i < j → i ≤ len → DecimalInside j len p → WholeInside i len (plain_of i p)
-plain_inside i j len (Worth v n) l k h = omega arith
-plain_inside i j len (Missing a) l k h = h
-plain_inside i j len (Over a) l k h = k
-
-negated_size : (z : ℤ) → nat_abs (neg_ℤ z) ≡ nat_abs z
+pub negated_size : (z : ℤ) → nat_abs (neg_ℤ z) ≡ nat_abs z
 negated_size (pos zero) = refl
 negated_size (pos (suc n)) = refl
 negated_size (negsuc n) = refl
 
-negated_rest : (i len : ℕ) (w : Whole) → WholeInside i len w → WholeSmall w → WholeInside i len (negated_of w) × WholeSmall (negated_of w)
-negated_rest i len (whole.Is v n) h k = (h, rw (negated_size v) k)
-negated_rest i len (whole.Stop j a) h k = (h, k)
+-- ---- digits as a number that starts at i
+
+plain_then : (s : List ℕ) (i : ℕ) (f : ℤ → ℤ) (p : Result (Read ℕ) DecimalError)
+    → reading.then (decimal_of (λ r. reading.stop 4 (drop i s)) s p) (λ n rest. reading.got (f (pos n)) rest)
+    ≡ reading.then (read_of s (plain_of i p)) (λ z rest. reading.got (f z) rest)
+unfolding reading.then
+plain_then s i f (Ok r) = refl
+plain_then s i f (Err (Missing a)) = refl
+plain_then s i f (Err (Over a)) = refl
+
+plain_itself : (x : reading.Read ℤ) → reading.then x (λ z rest. reading.got z rest) ≡ x
+unfolding reading.then
+plain_itself (reading.got z rest) = refl
+plain_itself (reading.stop k rest) = refl
 
 module _ (s : List ℕ) (i : ℕ) where
   pub number_end : length s ≤ i → reading.number within (drop i s) ≡ reading.stop 600 (drop i s)
@@ -96,20 +96,29 @@ module _ (s : List ℕ) (i : ℕ) where
     unfolding reading.number
     digit_first e f = rw (drop_here s i h, ne_eqb _ _ e, ne_eqb _ _ f, reading.number)
 
-    module _ (p : Decimal) (k : DecimalSmall 1 (2 ^ 40) p) where
-      pub number_minus : get_or s i 0 ≡ 45 → PositiveSays s (i + 1) (2 ^ 40) p → DecimalInside (i + 1 + 1) (length s) p
-          → (whole_of s (negated_of (plain_of i p)) ≡ reading.number within (drop i s))
-          × (WholeInside i (length s) (negated_of (plain_of i p)) × WholeSmall (negated_of (plain_of i p)))
+    module _ (p : Result (Read ℕ) DecimalError) where
+      pub number_plain : (get_or s i 0 ≡ 45 → ⊥) → (get_or s i 0 ≡ 48 → ⊥) → PositiveSays s i (2 ^ 40) p
+          → read_of s (plain_of i p) ≡ reading.number within (drop i s)
       unfolding PositiveSays
-      number_minus b q w = (
-        negated_then s i p ∙ ap (λ x. reading.then x (λ n rest. reading.got (neg_ℤ (pos n)) rest)) (q (λ r. reading.stop 4 (drop i s))) ∙ sym (minus_first b),
-        negated_rest i (length s) (plain_of i p) (plain_inside i (i + 1 + 1) (length s) p (omega arith) (omega arith) w) (plain_small i p k),
-      )
+      number_plain a b q =
+          sym (plain_itself (read_of s (plain_of i p)))
+          ∙ sym (plain_then s i (λ z. z) p)
+          ∙ ap (λ x. reading.then x (λ n rest. reading.got (pos n) rest)) (q (λ r. reading.stop 4 (drop i s)))
+          ∙ sym (digit_first a b)
 
-      pub number_plain : (get_or s i 0 ≡ 45 → ⊥) → (get_or s i 0 ≡ 48 → ⊥) → PositiveSays s i (2 ^ 40) p → DecimalInside (i + 1) (length s) p
-          → (whole_of s (plain_of i p) ≡ reading.number within (drop i s)) × (WholeInside i (length s) (plain_of i p) × WholeSmall (plain_of i p))
-      unfolding PositiveSays
-      number_plain a b q w = (
-        plain_then s i p ∙ ap (λ x. reading.then x (λ n rest. reading.got (pos n) rest)) (q (λ r. reading.stop 4 (drop i s))) ∙ sym (digit_first a b),
-        (plain_inside i (i + 1) (length s) p (omega arith) (omega arith) w, plain_small i p k),
-      )
+      module _ (b : get_or s i 0 ≡ 45) (q : PositiveSays s (i + 1) (2 ^ 40) p) where
+        minus_then : reading.then (read_of s (plain_of i p)) (λ z rest. reading.got (neg_ℤ z) rest) ≡ reading.number within (drop i s)
+        unfolding PositiveSays
+        minus_then =
+            sym (plain_then s i neg_ℤ p)
+            ∙ ap (λ x. reading.then x (λ n rest. reading.got (neg_ℤ (pos n)) rest)) (q (λ r. reading.stop 4 (drop i s)))
+            ∙ sym (minus_first b)
+
+        pub number_minus : (z : ℤ) (next : ℕ) → plain_of i p ≡ Ok (record { value = z; next = next })
+            → reading.got (neg_ℤ z) (drop next s) ≡ reading.number within (drop i s)
+        unfolding reading.then
+        number_minus z next e = ap (λ r. reading.then (read_of s r) (λ z rest. reading.got (neg_ℤ z) rest)) (sym e) ∙ minus_then
+
+        pub number_stop : (e : SheetError) → plain_of i p ≡ Err e → stop_at s e ≡ reading.number within (drop i s)
+        unfolding reading.then
+        number_stop e f = ap (λ r. reading.then (read_of s r) (λ z rest. reading.got (neg_ℤ z) rest)) (sym f) ∙ minus_then

@@ -1,33 +1,39 @@
 -- What the sizes of axes come to. Assumes nothing.
-use Rattle.std.specs.Prelude.{cond, ℕ, leb, eqb}
-use Rattle.rules.specs.declared.SheetPlace.{SheetPlace}
+use Rattle.std.specs.Prelude.{cond, ℕ, leb, eqb, Option, None, Some}
+use Rattle.std.specs.Option.{option_or}
+use Rattle.rules.specs.declared.PathError.TheVariants.{InvalidLength, InvalidShape}
+use Rattle.rules.specs.declared.SheetError.{SheetError}
+use Rattle.sheet_reading.specs.declared.Count.{Count}
 use Rattle.sheet_sizes.specs.declared.AxisSizes.{AxisSizes}
 use Rattle.sheet_sizes.specs.declared.AxesSizes.{AxesSizes}
 
--- J23, J24: the first of 2 and 3 on an axis, in the order of the text, where axis one has so many points; the number 0 where there is none
-abbrev pub place_of : ℕ → ℕ → SheetPlace
-place_of k place = record { number = k; at = place }
+-- J23: 2 for a list of so many numbers
+abbrev pub too_many : ℕ → Count → Option SheetError
+too_many many list = cond (leb many list.numbers) (Some (record { cause = InvalidLength; at = list.over })) None
 
-unfoldable pub fault_of : AxisSizes → ℕ → SheetPlace
-fault_of z count =
-    cond (leb 258 z.points) (place_of 2 z.points_over)
-    (cond (eqb z.points count)
-    (cond (leb 4 z.start) (place_of 2 z.start_over) (cond (leb 4 z.end) (place_of 2 z.end_over) (place_of 0 0)))
-    (place_of 3 z.close))
+-- J24: 3 for another count of points than axis one's
+abbrev pub unlike : AxisSizes → ℕ → Option SheetError
+unlike z count = cond (eqb z.points.numbers count) None (Some (record { cause = InvalidShape; at = z.close }))
+
+-- J23, J24: the first of 2 and 3 on an axis, in the order of the text, where axis one has so many points
+abbrev pub fault_of : AxisSizes → ℕ → Option SheetError
+fault_of z count = option_or (option_or (option_or (too_many 258 z.points) (unlike z count)) (too_many 4 z.start)) (too_many 4 z.end)
 
 -- J26: how many numbers each list has so far, with one more: 0 where they differ
-abbrev pub together_of : ℕ → ℕ → ℕ → ℕ
-together_of k sofar n = cond (eqb k 0) n (cond (eqb sofar n) n 0)
+abbrev pub together : ℕ → ℕ → ℕ
+together sofar n = cond (eqb sofar n) n 0
 
--- what was counted on k axes, with one more
-unfoldable pub with_axis : ℕ → AxesSizes → AxisSizes → AxesSizes
-with_axis k sofar z =
-    let count = cond (eqb k 0) z.points sofar.points in
-    let fault = cond (eqb sofar.number 0) (fault_of z count) (place_of sofar.number sofar.at) in
-    record {
-      points = count;
-      start = together_of k sofar.start z.start;
-      end = together_of k sofar.end z.end;
-      number = fault.number;
-      at = fault.at;
-    }
+-- what was counted on some axes, with one more
+abbrev pub with_axis : Option AxesSizes → AxisSizes → AxesSizes
+with_axis None z = record {
+  points = z.points.numbers;
+  start = z.start.numbers;
+  end = z.end.numbers;
+  fault = fault_of z z.points.numbers;
+}
+with_axis (Some axes) z = record {
+  points = axes.points;
+  start = together axes.start z.start.numbers;
+  end = together axes.end z.end.numbers;
+  fault = option_or axes.fault (fault_of z axes.points);
+}

@@ -2,113 +2,96 @@
 // them wherever it stands, so they are noted here, and told when the whole text was read.
 #![tactic(auto)]
 
-ghost use Rattle.std.specs.Prelude.{◌≡◌, cond, eqb};
-ghost use Rattle.sheet_sizes.specs.Sizes.{place_of, fault_of, together_of, with_axis};
+ghost use Rattle.std.specs.Prelude.{◌≡◌};
+ghost use Rattle.sheet_sizes.specs.Sizes.{too_many, unlike, fault_of, together, with_axis};
 
-use rules::SheetPlace;
+use rules::{PathError, SheetError};
+use sheet_reading::Count;
 
-// What was counted on an axis: how many numbers each list has, as far as a buffer holds them, where each was filled up, the bracket
-// that closes its points, and the place after the axis.
+// What was counted on an axis: each of its lists, and the bracket that closes its points.
 #[derive(Clone, Copy)]
 pub struct AxisSizes {
-    pub points: usize,
-    pub points_over: usize,
+    pub points: Count,
     pub close: usize,
-    pub start: usize,
-    pub start_over: usize,
-    pub end: usize,
-    pub end_over: usize,
-    pub next: usize,
+    pub start: Count,
+    pub end: Count,
 }
 
-// What was counted on the axes so far: axis one's points, how many numbers each start list and each end list has (0 where they
-// differ), and the first refusal for a size, or the number 0.
+// What was counted on some axes: axis one's points, how many numbers each start list and each end list has (0 where they differ), and
+// the first refusal for a size.
 #[derive(Clone, Copy)]
 pub struct AxesSizes {
     pub points: usize,
     pub start: usize,
     pub end: usize,
-    pub number: u32,
-    pub at: usize,
+    pub fault: Option<SheetError>,
 }
 
 // J23: "the 258th point"
 const TOO_MANY_POINTS: usize = 258;
 
-// J23, J24: 2 for the 258th point or a state's 4th number, 3 for another count than axis one's: the first in the order of the text.
-fn fault_of(z: AxisSizes, count: usize) -> SheetPlace
-    ensures { result ≡ fault_of z count }
+// J23: a state's 4th number
+const TOO_MANY_NUMBERS: usize = 4;
+
+// J23: 2 for a list of so many numbers.
+fn too_many(many: usize, list: Count) -> Option<SheetError>
+    ensures { result ≡ too_many many list }
 {
-    if TOO_MANY_POINTS <= z.points {
-        return SheetPlace {
-            number: 2,
-            at: z.points_over,
-        };
+    if list.numbers < many {
+        return None;
     }
-    if z.points != count {
-        return SheetPlace {
-            number: 3,
-            at: z.close,
-        };
-    }
-    if 4 <= z.start {
-        return SheetPlace {
-            number: 2,
-            at: z.start_over,
-        };
-    }
-    if 4 <= z.end {
-        return SheetPlace {
-            number: 2,
-            at: z.end_over,
-        };
-    }
-    SheetPlace { number: 0, at: 0 }
+    Some(SheetError {
+        cause: PathError::InvalidLength,
+        at: list.over,
+    })
 }
 
-// J26: the count of the first list, or of all lists so far, or 0.
-fn together(k: usize, sofar: usize, n: usize) -> usize
-    ensures { result ≡ together_of k sofar n }
+// J24: 3 for another count of points than axis one's.
+fn unlike(z: AxisSizes, count: usize) -> Option<SheetError>
+    ensures { result ≡ unlike z count }
 {
-    if k == 0 {
-        return n;
+    if z.points.numbers == count {
+        return None;
     }
+    Some(SheetError {
+        cause: PathError::InvalidShape,
+        at: z.close,
+    })
+}
+
+// J23, J24: the first of them in the order of the text.
+fn fault_of(z: AxisSizes, count: usize) -> Option<SheetError>
+    ensures { result ≡ fault_of z count }
+{
+    too_many(TOO_MANY_POINTS, z.points)
+        .or(unlike(z, count))
+        .or(too_many(TOO_MANY_NUMBERS, z.start))
+        .or(too_many(TOO_MANY_NUMBERS, z.end))
+}
+
+// J26: the count of all lists so far, or 0.
+fn together(sofar: usize, n: usize) -> usize
+    ensures { result ≡ together sofar n }
+{
     if sofar == n { n } else { 0 }
 }
 
-// J24: axis one's count.
-fn count_of(k: usize, sofar: usize, n: usize) -> usize
-    ensures { result ≡ cond (eqb k 0) n sofar }
+// One axis more. J23, J24: the earliest refusal stays.
+pub fn with_axis(sofar: Option<AxesSizes>, z: AxisSizes) -> AxesSizes
+    ensures { result ≡ with_axis sofar z }
 {
-    if k == 0 { n } else { sofar }
-}
-
-// J23, J24: the earliest refusal stays.
-fn fault_with(sofar: AxesSizes, z: AxisSizes, count: usize) -> SheetPlace
-    ensures { result ≡ cond (eqb sofar.number 0) (fault_of z count) (place_of sofar.number sofar.at) }
-{
-    if sofar.number == 0 {
-        return fault_of(z, count);
-    }
-    SheetPlace {
-        number: sofar.number,
-        at: sofar.at,
-    }
-}
-
-// One axis more.
-pub fn with_axis(k: usize, sofar: AxesSizes, z: AxisSizes) -> AxesSizes
-    ensures { result ≡ with_axis k sofar z }
-{
-    let points = count_of(k, sofar.points, z.points);
-    let start = together(k, sofar.start, z.start);
-    let end = together(k, sofar.end, z.end);
-    let fault = fault_with(sofar, z, points);
-    AxesSizes {
-        points,
-        start,
-        end,
-        number: fault.number,
-        at: fault.at,
+    match sofar {
+        None => AxesSizes {
+            points: z.points.numbers,
+            start: z.start.numbers,
+            end: z.end.numbers,
+            fault: fault_of(z, z.points.numbers),
+        },
+        Some(axes) => AxesSizes {
+            points: axes.points,
+            start: together(axes.start, z.start.numbers),
+            end: together(axes.end, z.end.numbers),
+            fault: axes.fault.or(fault_of(z, axes.points)),
+        },
     }
 }
