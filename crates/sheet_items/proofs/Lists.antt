@@ -1,6 +1,5 @@
 -- The loop over the items of a list: what was read so far, and how it goes on with each item. Assumes nothing.
-use mathlib.Core.Path.{◌≡◌, refl, sym, ap, subst, ◌∙◌}
-use mathlib.Core.Logic.{⊎_elim}
+use mathlib.Core.Path.{◌≡◌, refl, sym, ap, ◌∙◌}
 use mathlib.Core.Bool.{Bool, true, false, cond}
 use mathlib.Core.List.{List, [], ◌++◌, append_assoc, append-nil}
 use Prim.Native.Nat.{ℕ, ◌+◌, ◌-◌, ◌≤◌, ◌<◌, min}
@@ -26,17 +25,13 @@ use Rattle.sheet_items.specs.Says.{
   end_after,
   ItemTo,
   ItemStops,
-  ItemFilled,
   ListTo,
   ListStops,
-  ListFilled,
   over_at,
   Following,
 }
-use Rattle.sheet_items.specs.declared.Filled.{Filled}
-use Rattle.sheet_items.specs.declared.Filled.TheVariants as filled
-use Rattle.sheet_items.specs.declared.Listed.TheVariants as listed
-use Rattle.sheet_items.specs.declared.Follows.{Follows}
+use Rattle.std.proofs.Common.{Ok, Err}
+use Rattle.rules.specs.declared.SheetError.{SheetError}
 use Rattle.sheet_items.specs.declared.Follows.TheVariants as follows
 use Rattle.sheet_items.proofs.Sizes.{item_size}
 
@@ -59,9 +54,9 @@ module _ (text : List ℕ) (place d : ℕ) where
   abbrev from_here : reading.Read Items
   from_here = list_at d (drop place text)
 
-  list_stops : (k at : ℕ) → item_at d (drop place text) ≡ reading.stop k (drop at text) → from_here ≡ reading.stop k (drop at text)
+  list_stops : (k : ℕ) (r : List ℕ) → item_at d (drop place text) ≡ reading.stop k r → from_here ≡ reading.stop k r
   unfolding reading.then
-  list_stops k at e = list_is within below4 d (drop place text) ∙ rw e
+  list_stops k r e = list_is within below4 d (drop place text) ∙ rw e
 
   list_on : (i : Item) (next : ℕ) → item_at d (drop place text) ≡ reading.got i (drop next text)
       → from_here ≡ after_with (λ r. list_at d r) i (drop next text)
@@ -138,9 +133,9 @@ module _ (text : List ℕ) (from d : ℕ) (out : List ℤ) (at : ℕ) (start : a
     same_room = ap length s.holds ∙ length-put out at s.zs start
 
     -- an item is a fault
-    pub stopped : (k fault : ℕ) → ItemStops text place d k fault → ListStops text from d k fault
+    pub stopped : (e : SheetError) → ItemStops text place d e → ListStops text from d e
     unfolding reading.then
-    stopped k fault h = record { reads = s.reads ∙ rw (list_stops text place d k fault h.reads); inside = h.inside }
+    stopped e h = record { reads = s.reads ∙ rw (list_stops text place d _ _ h.reads); inside = h.inside }
 
     module _ (last next : ℕ) (now : List ℤ) (h : ItemTo text place d held end last next now) where
       -- the numbers with this item's
@@ -155,40 +150,34 @@ module _ (text : List ℕ) (from d : ℕ) (out : List ℤ) (at : ℕ) (start : a
       goes_on e = s.reads ∙ ap (λ y. reading.then y (λ items rest. reading.got (s.pre items) rest)) (list_on text place d h.it next h.reads ∙ e)
 
       -- what follows it is a fault
-      pub faulty : (k : ℕ) → ((others : List ℕ → reading.Read Items) (j : Item) → after_with others j (drop next text) ≡ reading.stop k (drop next text))
-          → ListStops text from d k next
+      pub faulty : (e : SheetError) → Following text next (Err e) → ListStops text from d e
       unfolding reading.then
-      faulty k e = record { reads = goes_on (e _ h.it); inside = h.inside }
+      faulty e f = record { reads = goes_on (f.1 _ h.it); inside = f.0 }
 
       module _ (over1 : ℕ) (o : over1 ≡ cond (ltb end (length held)) place over) where
         over_is : over1 ≡ cond (ltb end (length out)) place over
         over_is = o ∙ rw same_room
 
         -- it is the last
-        pub closed : (after : ℕ) → after ≡ next + 1 → after ≤ length text
-            → ((others : List ℕ → reading.Read Items) (j : Item) → after_with others j (drop next text) ≡ reading.got (one j) (drop after text))
-            → ListTo text from d out at last after over1 now
+        pub closed : (after : ℕ) → Following text next (Ok (follows.Close after)) → ListTo text from d out at last after over1 now
         unfolding reading.then numbers over_at
-        closed after f l e = record {
+        closed after f = record {
           items = s.pre (one h.it);
-          reads = goes_on (e _ h.it);
-          forward = omega (arith, h.forward, s.forward);
-          inside = l;
+          reads = goes_on (f.2 _ h.it);
+          forward = omega (arith, f.0, h.forward, s.forward);
+          inside = f.1;
           ends = rw (s.numbered (one h.it)) more_numbers.0;
           holds = rw (s.numbered (one h.it)) more_numbers.1;
           overs = λ r. over_is ∙ sym (s.overs r (one h.it));
         }
 
         -- another follows
-        pub one_more : (after : ℕ) → after ≡ next + 1 → after ≤ length text
-            → ((others : List ℕ → reading.Read Items) (j : Item)
-            → after_with others j (drop next text) ≡ reading.then (others (drop after text)) (λ items rest. reading.got (more j items) rest))
-            → Sofar text from d out at after last over1 now
+        pub one_more : (after : ℕ) → Following text next (Ok (follows.Item after)) → Sofar text from d out at after last over1 now
         unfolding numbers
-        one_more after f l e = record {
+        one_more after f = record {
           pre = λ items. s.pre (more h.it items);
           zs = s.zs ++ numbers_of h.it;
-          reads = goes_on (e _ h.it) ∙ then_then (list_at d (drop after text)) (λ items. more h.it items) s.pre;
+          reads = goes_on (f.2 _ h.it) ∙ then_then (list_at d (drop after text)) (λ items. more h.it items) s.pre;
           numbered = λ items. s.numbered (more h.it items) ∙ sym (append_assoc s.zs (numbers_of h.it) (numbers items));
           ends = more_numbers.0;
           holds = more_numbers.1;
@@ -196,43 +185,10 @@ module _ (text : List ℕ) (from d : ℕ) (out : List ℤ) (at : ℕ) (start : a
               s.overs r (more h.it items)
               ∙ over_more (length out) end last place over h.it items (h.ends ∙ rw same_room) (omega (arith, s.ends))
               ∙ rw (over_is, place_is items);
-          forward = omega (arith, h.forward, s.forward);
-          inside = l;
+          forward = omega (arith, f.0, h.forward, s.forward);
+          inside = f.1;
         }
           where
             place_is : (items : Items) → place + length (spell_item h.it ++ bytes " ") ≡ after
             place_is items =
-                omega (arith, f, item_long text place next d h.it h.reads h.forward h.inside, length-append (spell_item h.it) (bytes " "))
-
--- one turn of the loop: an item, and what follows it
-module _ (text : List ℕ) (from d : ℕ) (out : List ℤ) (at : ℕ) (start : at ≤ length out) (place end over : ℕ) (held : List ℤ)
-    (s : Sofar text from d out at place end over held) (read : Filled) (now : List ℤ) (item : ItemFilled text place d held end read now) where
-  item_to : (last next : ℕ) → read ≡ filled.To last next → ItemTo text place d held end last next now
-  unfolding ItemFilled
-  item_to last next e = subst (λ r. ItemFilled text place d held end r now) e item
-
-  module _ (follow : Follows) (g : Following text read follow) where
-    pub turn_stop : (k fault : ℕ) → follow ≡ follows.Stop k fault → ListFilled text from d out at (listed.Stop k fault) now
-    unfolding Following ItemFilled ListFilled
-    turn_stop k fault e =
-        ⊎_elim
-        (λ (i : read ≡ filled.Stop k fault).
-        stopped text from d out at start place end over held s k fault (subst (λ r. ItemFilled text place d held end r now) i item))
-        (λ i. faulty text from d out at start place end over held s i.0 fault now (item_to i.0 fault i.1) k i.2)
-        (subst (Following text read) e g)
-
-    module _ (over1 : ℕ) (o : over1 ≡ cond (ltb end (length held)) place over) where
-      pub turn_close : (last after : ℕ) → follow ≡ follows.Close last after → ListFilled text from d out at (listed.To last after over1) now
-      unfolding Following ListFilled
-      turn_close last after e =
-          let i : Following text read (follows.Close last after) = subst (Following text read) e g in
-          closed text from d out at start place end over held s last i.0 now (item_to last i.0 i.1) over1 o after i.2 i.3 i.4
-
-      pub turn_item : (last next : ℕ) → follow ≡ follows.Item last next → Sofar text from d out at next last over1 now × (place < next)
-      unfolding Following
-      turn_item last next e =
-          let i : Following text read (follows.Item last next) = subst (Following text read) e g in
-          let t = item_to last i.0 i.1 in (
-            one_more text from d out at start place end over held s last i.0 now t over1 o next i.2 i.3 i.4,
-            omega (arith, i.2, t.forward),
-          )
+                omega (arith, f.0, item_long text place next d h.it h.reads h.forward h.inside, length-append (spell_item h.it) (bytes " "))

@@ -1,16 +1,16 @@
 -- What the answers of the item routine and the list routine say of the judge's reading. Assumes nothing.
-use Rattle.std.specs.Prelude.{◌≡◌, ◌⊎◌, true, false, List, [], ◌∷◌, ◌++◌, ℕ, suc, ◌+◌, ◌*◌, ◌-◌, ◌≤◌, ◌<◌, min, ℤ, length, drop, ltb}
+use Rattle.std.specs.Prelude.{◌≡◌, true, false, List, [], ◌∷◌, ◌++◌, ℕ, suc, ◌+◌, ◌-◌, ◌≤◌, ◌<◌, min, ℤ, length, drop, ltb, Result, Ok, Err}
+use Rattle.rules.specs.declared.SheetError.{SheetError}
 use Rattle.rules.specs.Sheets.{Item, Items, whole, again, one, more, bytes, spell_item, within, below4}
 use Rattle.rules.specs.SheetReading as reading
 use Rattle.rules.specs.SheetFaults.{size_of}
-use Rattle.rules.specs.SheetAnswers.{numbers, numbers_of, times}
-use Rattle.sheet_puts.specs.Put.{put, block}
+use Rattle.rules.specs.SheetAnswers.{numbers, numbers_of}
+use Rattle.sheet_puts.specs.Put.{put}
+use Rattle.sheet_reading.specs.declared.Read.{Read}
+use Rattle.sheet_reading.specs.declared.Count.{Count}
+use Rattle.sheet_reading.specs.Says.{stop_at}
 use Rattle.sheet_items.specs.declared.Opening.{Opening}
 use Rattle.sheet_items.specs.declared.Opening.TheVariants as opening
-use Rattle.sheet_items.specs.declared.Filled.{Filled}
-use Rattle.sheet_items.specs.declared.Filled.TheVariants as filled
-use Rattle.sheet_items.specs.declared.Listed.{Listed}
-use Rattle.sheet_items.specs.declared.Listed.TheVariants as listed
 use Rattle.sheet_items.specs.declared.Follows.{Follows}
 use Rattle.sheet_items.specs.declared.Follows.TheVariants as follows
 
@@ -36,18 +36,18 @@ end_after out at xs = min (length out) (at + length xs)
 
 -- ---- an item
 
--- how an item begins at a place: with a number, with the heading of a form of so many times, or with a fault, whatever its inner list is read as
-unfoldable pub Opened : List ℕ → ℕ → ℕ → Opening → Type 0
-Opened text from d opening.Number =
+-- how an item begins at a place: with a number, with the heading of a form, or with a fault, whatever its inner list is read as
+abbrev pub Opened : List ℕ → ℕ → ℕ → Result Opening SheetError → Type 0
+Opened text from d (Ok opening.Number) =
     (from < length text)
     × ((inner : List ℕ → reading.Read Items)
     → item_with inner d (drop from text) ≡ reading.then (reading.number within (drop from text)) (λ z rest. reading.got (whole z) rest))
-Opened text from d (opening.Again n start) =
-    (from < start) × (start ≤ length text) × (1 ≤ n) × (n ≤ 64) × (d < 4)
+Opened text from d (Ok (opening.Again h)) =
+    (from < h.next) × (h.next ≤ length text) × (1 ≤ h.value) × (h.value ≤ 64) × (d < 4)
     × ((inner : List ℕ → reading.Read Items)
-    → item_with inner d (drop from text) ≡ reading.then (inner (drop start text)) (λ items rest. reading.got (again n items) rest))
-Opened text from d (opening.Stop k place) =
-    (place ≤ length text) × ((inner : List ℕ → reading.Read Items) → item_with inner d (drop from text) ≡ reading.stop k (drop place text))
+    → item_with inner d (drop from text) ≡ reading.then (inner (drop h.next text)) (λ items rest. reading.got (again h.value items) rest))
+Opened text from d (Err e) =
+    (e.at ≤ length text) × ((inner : List ℕ → reading.Read Items) → item_with inner d (drop from text) ≡ stop_at text e)
 
 -- the judge reads an item from a place to another, and its numbers are written
 pub record ItemTo (text : List ℕ) (from d : ℕ) (out : List ℤ) (at end next : ℕ) (after : List ℤ) : Type 0 where
@@ -58,22 +58,22 @@ pub record ItemTo (text : List ℕ) (from d : ℕ) (out : List ℤ) (at end next
   pub ends : end ≡ end_after out at (numbers_of it)
   pub holds : after ≡ put out at (numbers_of it)
 
--- the judge stops at a place
-pub record ItemStops (text : List ℕ) (from d k place : ℕ) : Type 0 where
-  pub reads : item_at d (drop from text) ≡ reading.stop k (drop place text)
-  pub inside : place ≤ length text
+-- the judge stops
+pub record ItemStops (text : List ℕ) (from d : ℕ) (e : SheetError) : Type 0 where
+  pub reads : item_at d (drop from text) ≡ stop_at text e
+  pub inside : e.at ≤ length text
 
-unfoldable pub ItemFilled : List ℕ → ℕ → ℕ → List ℤ → ℕ → Filled → List ℤ → Type 0
-ItemFilled text from d out at (filled.To end next) after = ItemTo text from d out at end next after
-ItemFilled text from d out at (filled.Stop k place) after = ItemStops text from d k place
+abbrev pub ItemFilled : List ℕ → ℕ → ℕ → List ℤ → ℕ → Result (Read ℕ) SheetError → List ℤ → Type 0
+ItemFilled text from d out at (Ok r) after = ItemTo text from d out at r.value r.next after
+ItemFilled text from d out at (Err e) after = ItemStops text from d e
 
 -- the same of a number that stands there
-unfoldable pub NumberFilled : List ℕ → ℕ → List ℤ → ℕ → Filled → List ℤ → Type 0
-NumberFilled text from out at (filled.To end next) after =
-    (z : ℤ) × (reading.number within (drop from text) ≡ reading.got z (drop next text)) × (from < next) × (next ≤ length text)
-    × (end ≡ end_after out at (z ∷ [])) × (after ≡ put out at (z ∷ []))
-NumberFilled text from out at (filled.Stop k place) after =
-    (reading.number within (drop from text) ≡ reading.stop k (drop place text)) × (place ≤ length text)
+abbrev pub NumberFilled : List ℕ → ℕ → List ℤ → ℕ → Result (Read ℕ) SheetError → List ℤ → Type 0
+NumberFilled text from out at (Ok r) after =
+    (z : ℤ) × (reading.number within (drop from text) ≡ reading.got z (drop r.next text)) × (from < r.next) × (r.next ≤ length text)
+    × (r.value ≡ end_after out at (z ∷ [])) × (after ≡ put out at (z ∷ []))
+NumberFilled text from out at (Err e) after =
+    (reading.number within (drop from text) ≡ stop_at text e) × (e.at ≤ length text)
 
 -- ---- a list
 
@@ -93,38 +93,22 @@ pub record ListTo (text : List ℕ) (from d : ℕ) (out : List ℤ) (at end next
   pub holds : after ≡ put out at (numbers items)
   pub overs : at < length out → over ≡ over_at (length out - at - 1) from items
 
-pub record ListStops (text : List ℕ) (from d k place : ℕ) : Type 0 where
-  pub reads : list_at d (drop from text) ≡ reading.stop k (drop place text)
-  pub inside : place ≤ length text
+pub record ListStops (text : List ℕ) (from d : ℕ) (e : SheetError) : Type 0 where
+  pub reads : list_at d (drop from text) ≡ stop_at text e
+  pub inside : e.at ≤ length text
 
-unfoldable pub ListFilled : List ℕ → ℕ → ℕ → List ℤ → ℕ → Listed → List ℤ → Type 0
-ListFilled text from d out at (listed.To end next over) after = ListTo text from d out at end next over after
-ListFilled text from d out at (listed.Stop k place) after = ListStops text from d k place
+abbrev pub ListFilled : List ℕ → ℕ → ℕ → List ℤ → ℕ → Result (Read Count) SheetError → List ℤ → Type 0
+ListFilled text from d out at (Ok r) after = ListTo text from d out at r.value.numbers r.next r.value.over after
+ListFilled text from d out at (Err e) after = ListStops text from d e
 
--- an inner list ends in its buffer
-abbrev pub EndsIn : ℕ → ℕ → Listed → Type 0
-EndsIn at room (listed.To end next over) = (at ≤ end) × (end ≤ room)
-EndsIn at room (listed.Stop k place) = at ≤ room
-
--- an inner list n times over: the item, and the buffer
-abbrev pub repeated_item : ℕ → ℕ → ℕ → Listed → Filled
-repeated_item n room at (listed.To end next over) = filled.To (min room (at + n * (end - at))) next
-repeated_item n room at (listed.Stop k place) = filled.Stop k place
-
-abbrev pub repeated_in : ℕ → List ℤ → ℕ → Listed → List ℤ
-repeated_in n out at (listed.To end next over) = put out at (times n (block out at end))
-repeated_in n out at (listed.Stop k place) = out
-
--- what follows an item that was read: another item, the closing bracket, or a fault
-unfoldable pub Following : List ℕ → Filled → Follows → Type 0
-Following text read (follows.Item end place) =
-    (next : ℕ) × (read ≡ filled.To end next) × (place ≡ next + 1) × (place ≤ length text)
+-- what follows an item that was read up to a place: another item, the closing bracket, or a fault
+abbrev pub Following : List ℕ → ℕ → Result Follows SheetError → Type 0
+Following text next (Ok (follows.Item place)) =
+    (place ≡ next + 1) × (place ≤ length text)
     × ((others : List ℕ → reading.Read Items) (i : Item)
     → after_with others i (drop next text) ≡ reading.then (others (drop place text)) (λ items rest. reading.got (more i items) rest))
-Following text read (follows.Close end place) =
-    (next : ℕ) × (read ≡ filled.To end next) × (place ≡ next + 1) × (place ≤ length text)
+Following text next (Ok (follows.Close place)) =
+    (place ≡ next + 1) × (place ≤ length text)
     × ((others : List ℕ → reading.Read Items) (i : Item) → after_with others i (drop next text) ≡ reading.got (one i) (drop place text))
-Following text read (follows.Stop k place) =
-    (read ≡ filled.Stop k place)
-    ⊎ ((end : ℕ) × (read ≡ filled.To end place)
-    × ((others : List ℕ → reading.Read Items) (i : Item) → after_with others i (drop place text) ≡ reading.stop k (drop place text)))
+Following text next (Err e) =
+    (e.at ≤ length text) × ((others : List ℕ → reading.Read Items) (i : Item) → after_with others i (drop next text) ≡ stop_at text e)

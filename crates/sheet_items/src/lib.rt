@@ -4,155 +4,86 @@
 #![tactic(auto)]
 
 ghost use Rattle.std.specs.Prelude.{◌≡◌, ◌+◌, ◌≤◌, cond, length, ltb};
-ghost use Rattle.sheet_items.specs.Says.{
-  Opened,
-  NumberFilled,
-  ItemFilled,
-  ListFilled,
-  EndsIn,
-  repeated_item,
-  repeated_in,
-  Following,
-};
+ghost use Rattle.sheet_items.specs.Says.{Opened, NumberFilled, ItemFilled, ListFilled, Following};
 
-use sheet_counts::Counted;
-use sheet_numbers::Whole;
+use rules::{PathError, SheetError};
+use sheet_reading::{Count, Read, invalid_sheet};
 
-// How an item begins: with a number, with the heading of a form of so many times whose list starts at `start`, or with a fault.
+// How an item begins: with a number, or with the heading of a form: its count, and the place where its list starts.
 #[derive(Clone, Copy)]
 pub enum Opening {
     Number,
-    Again { times: usize, start: usize },
-    Stop { number: u32, at: usize },
+    Again(Read<usize>),
 }
 
-// Where an item's numbers end in the buffer, and the place after it; or a refusal's number and place.
-#[derive(Clone, Copy)]
-pub enum Filled {
-    To { end: usize, next: usize },
-    Stop { number: u32, at: usize },
-}
-
-// The same of a list, with the place of the item in which the buffer was filled up, if it was.
-#[derive(Clone, Copy)]
-pub enum Listed {
-    To {
-        end: usize,
-        next: usize,
-        over: usize,
-    },
-    Stop {
-        number: u32,
-        at: usize,
-    },
-}
-
-// What follows an item: another item at a place, the end of the list, or a fault.
+// What follows an item: another item at a place, or the end of the list and the place after it.
 #[derive(Clone, Copy)]
 pub enum Follows {
-    Item { end: usize, place: usize },
-    Close { end: usize, next: usize },
-    Stop { number: u32, at: usize },
+    Item(usize),
+    Close(usize),
 }
 
 // J7: "at most 4 `again` forms inside one another"
 const MOST_DEEP: usize = 4;
 
 // J4, J7, J21: the bracket alone decides that an item is a form; inside four forms it is refused.
-fn open_item(text: &[u8], from: usize, depth: usize) -> Opening
+fn open_item(text: &[u8], from: usize, depth: usize) -> Result<Opening, SheetError>
     requires { from ≤ length text.now }
     ensures { Opened text.now from depth result }
 {
-    if text.len() <= from {
-        return Opening::Stop {
-            number: 600,
-            at: from,
-        };
+    if from == text.len() {
+        return Err(invalid_sheet(from));
     }
     if text[from] != b'(' {
-        return Opening::Number;
+        return Ok(Opening::Number);
     }
     if MOST_DEEP <= depth {
-        return Opening::Stop {
-            number: 601,
+        return Err(SheetError {
+            cause: PathError::SheetTooDeep,
             at: from,
-        };
+        });
     }
-    let form = sheet_counts::head(text, from + 1);
-    match form {
-        Counted::Is { value, next } => Opening::Again {
-            times: value,
-            start: next,
-        },
-        Counted::Stop { number, at } => Opening::Stop { number, at },
-    }
+    let heading = sheet_counts::head(text, from + 1)?;
+    Ok(Opening::Again(heading))
 }
 
 // A number as an item.
-fn number_item(text: &[u8], from: usize, out: &mut [i64], at: usize) -> Filled
+fn number_item(
+    text: &[u8],
+    from: usize,
+    out: &mut [i64],
+    at: usize,
+) -> Result<Read<usize>, SheetError>
     requires { (from ≤ length text.now) × (at ≤ length out.old) }
     ensures { NumberFilled text.now from out.old at result out.new }
 {
-    let z = sheet_numbers::number(text, from);
-    match z {
-        Whole::Is { value, next } => {
-            let end = sheet_puts::push(out, at, value);
-            Filled::To { end, next }
-        }
-        Whole::Stop { number, at: place } => Filled::Stop { number, at: place },
-    }
-}
-
-// J5: a form as an item: its list, which is written, n times over.
-fn repeated(n: usize, out: &mut [i64], at: usize, inner: Listed) -> Filled
-    requires { (1 ≤ n) × (n ≤ 64) × (length out.old ≤ 258) × EndsIn at (length out.old) inner }
-    ensures { (result ≡ repeated_item n (length out.old) at inner)
-        × (out.new ≡ repeated_in n out.old at inner) }
-{
-    match inner {
-        Listed::To { end, next, over: _ } => {
-            let last = sheet_puts::repeat(out, at, end, n);
-            Filled::To { end: last, next }
-        }
-        Listed::Stop { number, at: place } => Filled::Stop { number, at: place },
-    }
+    let z = sheet_numbers::number(text, from)?;
+    let end = sheet_puts::push(out, at, z.value);
+    Ok(Read {
+        value: end,
+        next: z.next,
+    })
 }
 
 // J2: "One space between items"
 const SPACE: u8 = b' ';
 
 // J2: what follows an item: one space and another item, or the bracket that closes the list.
-fn following(text: &[u8], read: Filled) -> Follows
-    ensures { Following text.now read result }
+fn following(text: &[u8], next: usize) -> Result<Follows, SheetError>
+    requires { next ≤ length text.now }
+    ensures { Following text.now next result }
 {
-    match read {
-        Filled::Stop { number, at } => Follows::Stop { number, at },
-        Filled::To { end, next } => {
-            if text.len() <= next {
-                return Follows::Stop {
-                    number: 600,
-                    at: next,
-                };
-            }
-            let b = text[next];
-            if b == b')' {
-                return Follows::Close {
-                    end,
-                    next: next + 1,
-                };
-            }
-            if b == SPACE {
-                return Follows::Item {
-                    end,
-                    place: next + 1,
-                };
-            }
-            Follows::Stop {
-                number: 600,
-                at: next,
-            }
-        }
+    if next == text.len() {
+        return Err(invalid_sheet(next));
     }
+    let b = text[next];
+    if b == b')' {
+        return Ok(Follows::Close(next + 1));
+    }
+    if b == SPACE {
+        return Ok(Follows::Item(next + 1));
+    }
+    Err(invalid_sheet(next))
 }
 
 // The later place where there is still room, else the one before.
@@ -162,26 +93,41 @@ fn later(end: usize, room: usize, place: usize, over: usize) -> usize
     if end < room { place } else { over }
 }
 
-// F12, J4: an item inside `depth` forms; for a form the list routine is called.
+// F12, J4, J5: an item inside `depth` forms, and where its numbers end in the buffer; for a form the list routine is called, and what
+// it has written is written n times over.
 #[cycle(item_list)]
-fn item(text: &[u8], from: usize, depth: usize, out: &mut [i64], at: usize) -> Filled
+fn item(
+    text: &[u8],
+    from: usize,
+    depth: usize,
+    out: &mut [i64],
+    at: usize,
+) -> Result<Read<usize>, SheetError>
     requires { (from ≤ length text.now) × (at ≤ length out.old) × (length out.old ≤ 258) }
     ensures { ItemFilled text.now from depth out.old at result out.new }
 {
-    let form = open_item(text, from, depth);
-    match form {
+    match open_item(text, from, depth)? {
         Opening::Number => number_item(text, from, out, at),
-        Opening::Again { times, start } => {
-            let inner = list(text, start, depth + 1, out, at);
-            repeated(times, out, at, inner)
+        Opening::Again(heading) => {
+            let inner = list(text, heading.next, depth + 1, out, at)?;
+            let end = sheet_puts::repeat(out, at, inner.value.numbers, heading.value);
+            Ok(Read {
+                value: end,
+                next: inner.next,
+            })
         }
-        Opening::Stop { number, at: place } => Filled::Stop { number, at: place },
     }
 }
 
 // F12, J6: a list inside `depth` forms, with its closing bracket: one item after the other, each read by the item routine.
 #[cycle(item_list)]
-pub fn list(text: &[u8], from: usize, depth: usize, out: &mut [i64], at: usize) -> Listed
+pub fn list(
+    text: &[u8],
+    from: usize,
+    depth: usize,
+    out: &mut [i64],
+    at: usize,
+) -> Result<Read<Count>, SheetError>
     requires { (from ≤ length text.now) × (at ≤ length out.old) × (length out.old ≤ 258) }
     ensures { ListFilled text.now from depth out.old at result out.new }
 {
@@ -190,28 +136,18 @@ pub fn list(text: &[u8], from: usize, depth: usize, out: &mut [i64], at: usize) 
     let mut over = from;
     loop {
         over = later(end, out.len(), place, over);
-        let read = item(text, place, depth, out, end);
-        let next = following(text, read);
-        match next {
-            Follows::Item {
-                end: last,
-                place: start,
-            } => {
-                end = last;
+        let read = item(text, place, depth, out, end)?;
+        end = read.value;
+        match following(text, read.next)? {
+            Follows::Item(start) => {
                 place = start;
             }
-            Follows::Close {
-                end: last,
-                next: after,
-            } => {
-                return Listed::To {
-                    end: last,
-                    next: after,
-                    over,
-                };
-            }
-            Follows::Stop { number, at: fault } => {
-                return Listed::Stop { number, at: fault };
+            Follows::Close(next) => {
+                let numbers = end;
+                return Ok(Read {
+                    value: Count { numbers, over },
+                    next,
+                });
             }
         }
     }
