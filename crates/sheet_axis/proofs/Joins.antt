@@ -9,10 +9,8 @@ use Rattle.rules.specs.SheetReading as reading
 use Rattle.sheet_laws.proofs.Exact.{Any}
 use Rattle.sheet_laws.proofs.Words.{always, word_n, word_out}
 use Rattle.sheet_laws.proofs.Limits.{spelled}
-use Rattle.sheet_words.specs.declared.Passed.{Passed}
-use Rattle.sheet_words.specs.declared.Passed.TheVariants as passed
-use Rattle.sheet_words.specs.Says.{passed_of, PassedInside}
-use Rattle.sheet_words.proofs.Steps.{passed_inside, passed_stop}
+use Rattle.rules.specs.declared.SheetError.{SheetError}
+use Rattle.sheet_reading.specs.Says.{stop_at}
 use Rattle.sheet_axis.specs.Says.{Reads, Stops}
 
 -- where a part of the text is spelled, the next place is as far on as the spelling is long
@@ -24,13 +22,13 @@ far text w from next e h k =
 abbrev pub word_at : List ℕ → ℕ → List ℕ → reading.Read (Unit {0})
 word_at w n t = reading.word w t
 
-module _
-    (text w : List ℕ) (from : ℕ) (r : Passed) (says : passed_of text r ≡ reading.word w (drop from text)) (inside : PassedInside from (length text) r) where
-  pub word_reads : (next : ℕ) → r ≡ passed.To next → Reads (word_at w) text from tt next
-  word_reads next e = record { says = λ n l. sym says ∙ ap (passed_of text) e; inside = (passed_inside r next e _ _ inside).1 }
+pub word_reads : (text w : List ℕ) (from next : ℕ) → reading.got tt (drop next text) ≡ reading.word w (drop from text) → next ≤ length text
+    → Reads (word_at w) text from tt next
+word_reads text w from next says inside = record { says = λ n l. sym says; inside = inside }
 
-  pub word_stops : (k place : ℕ) → r ≡ passed.Stop k place → Stops (word_at w) text from k place
-  word_stops k place e = record { says = λ n l. sym says ∙ ap (passed_of text) e; inside = passed_stop r k place e _ _ inside }
+pub word_stops : (text w : List ℕ) (from : ℕ) (e : SheetError) → stop_at text e ≡ reading.word w (drop from text) → e.at ≤ length text
+    → Stops (word_at w) text from e
+word_stops text w from e says inside = record { says = λ n l. sym says; inside = inside }
 
 pub word_far : (text w : List ℕ) (from next : ℕ) → Reads (word_at w) text from tt next → from ≤ length text → next ≡ from + length w
 word_far text w from next r h =
@@ -43,24 +41,24 @@ module _ {A : Type 0} (w : List ℕ) (P : ℕ → List ℕ → reading.Read A) (
   unfolding reading.lead reading.then
   lead_reads mid u a next r = record { says = λ n l. rw (u.says n l) (r.says n l); inside = r.inside }
 
-  pub lead_stops : (mid : ℕ) → Reads (word_at w) text from tt mid → (k place : ℕ) → Stops P text mid k place → Stops (reading.lead w P) text from k place
+  pub lead_stops : (mid : ℕ) → Reads (word_at w) text from tt mid → (e : SheetError) → Stops P text mid e → Stops (reading.lead w P) text from e
   unfolding reading.lead reading.then
-  lead_stops mid u k place r = record { says = λ n l. rw (u.says n l) (r.says n l); inside = r.inside }
+  lead_stops mid u e r = record { says = λ n l. rw (u.says n l) (r.says n l); inside = r.inside }
 
-  pub lead_fails : (k place : ℕ) → Stops (word_at w) text from k place → Stops (reading.lead w P) text from k place
+  pub lead_fails : (e : SheetError) → Stops (word_at w) text from e → Stops (reading.lead w P) text from e
   unfolding reading.lead reading.then
-  lead_fails k place u = record { says = λ n l. rw (u.says n l); inside = u.inside }
+  lead_fails e u = record { says = λ n l. rw (u.says n l); inside = u.inside }
 
 module _ {A B C : Type 0} (make : A → B → C) (P : ℕ → List ℕ → reading.Read A) (Q : ℕ → List ℕ → reading.Read B) (text : List ℕ) (from : ℕ) where
-  pub pair_fails : (k place : ℕ) → Stops P text from k place → Stops (reading.pair make P Q) text from k place
+  pub pair_fails : (e : SheetError) → Stops P text from e → Stops (reading.pair make P Q) text from e
   unfolding reading.then
-  pair_fails k place p = record { says = λ n l. rw (p.says n l); inside = p.inside }
+  pair_fails e p = record { says = λ n l. rw (p.says n l); inside = p.inside }
 
   module _ (a : A) (mid : ℕ) (p : Reads P text from a mid) where
     pub pair_reads : (b : B) (next : ℕ) → Reads Q text mid b next → Reads (reading.pair make P Q) text from (make a b) next
     unfolding reading.then
     pair_reads b next q = record { says = λ n l. rw (p.says n l, q.says n l); inside = q.inside }
 
-    pub pair_stops : (k place : ℕ) → Stops Q text mid k place → Stops (reading.pair make P Q) text from k place
+    pub pair_stops : (e : SheetError) → Stops Q text mid e → Stops (reading.pair make P Q) text from e
     unfolding reading.then
-    pair_stops k place q = record { says = λ n l. rw (p.says n l, q.says n l); inside = q.inside }
+    pair_stops e q = record { says = λ n l. rw (p.says n l, q.says n l); inside = q.inside }
