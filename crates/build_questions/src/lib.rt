@@ -50,7 +50,7 @@ fn all_numbers_finite(input: SplineInput) -> bool
 }
 
 // G4: the first no is the refusal.
-#[tactic(auto, using(crate::proofs::Behind::behind, build_shape::proofs::Shaped::limits), unfolding(rules::specs::Questions::first_no))]
+#[tactic(auto, using(crate::proofs::Behind::refused, crate::proofs::Behind::behind, build_shape::proofs::Shaped::limits), unfolding(rules::specs::Questions::first_no))]
 pub fn build_questions(input: SplineInput, cells: usize) -> Result<(), PathError>
     ensures { number_answered result ≡ first_no (build_questions (given_by input.entry) cells) }
 {

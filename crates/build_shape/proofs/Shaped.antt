@@ -1,5 +1,5 @@
--- What a yes to the questions of counts says of them: `shaped`, and `limits` as a build's questions need it. What a yes to the first three says of the
--- answer to all, and of the product that the last asks about: `behind`, `product`. Assumes nothing.
+-- What a yes to the questions of counts says of them: `shaped`, and `limits` as a build's questions need it. What an answer to the first
+-- three says of the answer to all, and of the product that the last asks about: `refused`, `behind`, `product`. Assumes nothing.
 use mathlib.Core.Path.{◌≡◌, sym, subst}
 use mathlib.Core.Bool.{true}
 use mathlib.Core.List.{[], ◌∷◌}
@@ -8,12 +8,14 @@ use native.Mathlib.Nat.{mul-le-mul}
 use native.Mathlib.Omega.{arith}
 use lib.Dec.{T, eqb, leb, leb→le}
 use lib.Ieee.Fits.{and_r}
+use Rattle.std.specs.Prelude.{Result, Err}
+use Rattle.rules.specs.declared.PathError.{PathError}
 use Rattle.rules.specs.Build.{valid_order, valid_axes}
-use Rattle.rules.specs.Questions.{ask, first_no}
+use Rattle.rules.specs.Questions.{ask, first_no, number_of, number_answered}
 use Rattle.rules.specs.Master.{size_questions}
 use Rattle.rules.proofs.Build.{by_order}
 use Rattle.rules.proofs.Questions.{answer_at, said_yes}
-use Rattle.questions.proofs.Asked.{went_on}
+use Rattle.questions.proofs.Asked.{no_decides, went_on}
 use Rattle.questions.proofs.Sized.{sized}
 use Rattle.build_shape.specs.Shape.{shape_questions}
 
@@ -49,6 +51,11 @@ limits order points axes numbers e =
     let cells : axes * (points - 1) ≤ 8 * 256 = mul-le-mul {m₂ = 256} s.few (omega arith) in
     let all : axes * (points - 1) * (order + 1) ≤ 8 * 256 * 8 = mul-le-mul {m₂ = 8} cells (omega arith) in
     (s.least, m, s.few, bounds.0, bounds.1, cells, all)
+
+pub refused : (order points axes numbers : ℕ) (e : PathError) (r : Result (Unit {0}) PathError) → r ≡ Err e
+    → number_of e ≡ first_no (size_questions order points) → number_answered r ≡ first_no (shape_questions order points axes numbers)
+unfolding shape_questions
+refused order points axes numbers e r is asked = no_decides e r (size_questions order points) _ is asked
 
 pub behind : (order points axes numbers : ℕ) → 0 ≡ first_no (size_questions order points)
     → first_no (shape_questions order points axes numbers) ≡ first_no (ask (valid_axes axes) 300 ∷ ask (eqb numbers (axes * points)) 3 ∷ [])
