@@ -1,5 +1,6 @@
 // "Factoring (Golub and Van Loan, partial pivoting)" in place: the upper factor on and above the
 // diagonal, the multipliers below it, and beside them which row of the matrix each row was.
+// The matrix stays a list beside its m, as in crates/build_pivots, and for the same reason.
 #![tactic(auto)]
 
 ghost use Rattle.std.specs.Prelude.{◌≡◌, ◌+◌, ◌-◌, ◌*◌, ◌<◌, List, [], length, Float};

@@ -1,6 +1,8 @@
 // The forward half of solving with a factored matrix of m rows (crates/build_factoring), of module 4 of document 01: "each number
 // once found, its products are subtracted one at a time from the rows still to be solved". What each function does is said by the
 // definitions of crates/rules/specs/Solve.antt, for every m.
+//
+// That a right side is as long as the matrix stays a clause: it joins two values, and no type of one of them holds it.
 #![tactic(auto)]
 
 ghost use Rattle.std.specs.Prelude.{◌≡◌, ◌*◌, ◌<◌, length};
@@ -22,7 +24,7 @@ impl Factored<'_> {
     ghost use Rattle.rules.specs.Solve.{forward};
     ghost use Rattle.build_forward.specs.Steps.{factors_of, forward_step};
 
-    // The right side with its rows exchanged.
+    // The right side with its rows exchanged: what is read goes by the rows, and no method of a slice copies so.
     fn exchange_rows(&self, b: &[f64], out: &mut [f64])
         requires { (length b.now ≡ self.now.m) × (length out.old ≡ self.now.m) }
         ensures { out.new ≡ forward self.now.m (factors_of self.now) b.now 0 }

@@ -1,6 +1,9 @@
 // The matrices of a build's inner nodes, which its order and the node's place alone decide, factored
 // and solved with by crates/build_solving. What each function does is said by the definitions of
 // crates/rules/specs/Solve.antt, for every m.
+//
+// What is filled stays a parameter beside the tables, and the three lists of the nodes stay three: each is lent and comes back by
+// itself, and a struct of them would be made anew, and taken apart again, at each call.
 #![tactic(auto)]
 
 ghost use Rattle.std.specs.Prelude.{◌≡◌, ◌+◌, ◌*◌, ◌≤◌, ◌<◌, ◌++◌, length, drop};

@@ -1,5 +1,8 @@
 // The pivots of a matrix of m rows, and the exchange of its rows: of module 4 of document 01, below factoring. What each function
 // does is said by the definitions of crates/rules/specs/Solve.antt, for every m.
+//
+// The matrix stays a list beside its m: a struct that holds a `&mut` list would ask each call to say that m is still the same, in the
+// place of how long the list is. That a row is below m joins two values, and no type of one of them holds it.
 #![tactic(auto)]
 
 ghost use Rattle.std.specs.Prelude.{◌≡◌, suc, ◌+◌, ◌-◌, ◌*◌, ◌≤◌, ◌<◌, length};

@@ -55,7 +55,7 @@ const M3: BlockMatrices = BlockMatrices {
     ],
 };
 
-// The tables for an m.
+// The tables for an m. It is no `From`, since only 1, 2 and 3 have tables.
 pub fn for_order(m: usize) -> BlockMatrices
     requires { (1 ≤ m) × (m ≤ 3) }
     ensures { result.m ≡ m }
