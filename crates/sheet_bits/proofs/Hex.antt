@@ -14,9 +14,9 @@ use Rattle.rules.specs.SheetAnswers.{hex_digit, hex}
 abbrev pub hex_place : ℕ → ℕ → ℕ
 hex_place bits j = hex_digit (bits / 16 ^ (15 - j) % 16)
 
-pub length-hex : (bits : ℕ) → length (hex bits) ≡ 16
+pub length_hex : (bits : ℕ) → length (hex bits) ≡ 16
 unfolding hex
-length-hex bits = length-listed 16 _
+length_hex bits = length-listed 16 _
 
 -- four bits a digit
 sixteen : (k : ℕ) → 2 ^ (4 * k) ≡ 16 ^ k

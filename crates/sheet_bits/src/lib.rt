@@ -36,27 +36,24 @@ impl<'a> Page<'a> {
     }
 }
 
-// J11: a digit "in hex".
+// J11: the digits "in hex".
+const DIGITS: [u8; 16] = *b"0123456789abcdef";
+
 fn hex_digit(digit: u64) -> u8
     requires { digit < 16 }
     ensures { result ≡ hex_digit digit }
 {
-    if digit < 10 {
-        b'0' + digit as u8
-    } else {
-        b'a' - 10 + digit as u8
-    }
+    DIGITS[digit as usize]
 }
 
 // J11: 64 bits as 16 digits, the highest first.
-fn hex_digits(bits: u64) -> [u8; 16]
-    ensures { result ≡ hex bits }
+fn write_hex(places: &mut [u8], bits: u64)
+    requires { length places.old ≡ 16 }
+    ensures { places.new ≡ hex bits }
 {
-    let mut digits = [0; 16];
-    for (j, digit) in digits.iter_mut().enumerate() {
-        *digit = hex_digit((bits >> (60 - 4 * j)) % 16);
+    for (j, place) in places.iter_mut().enumerate() {
+        *place = hex_digit((bits >> (60 - 4 * j)) % 16);
     }
-    digits
 }
 
 // The one NaN that the definitions know.
@@ -70,10 +67,13 @@ fn bits_of(x: f64) -> u64
 }
 
 // J11: a coefficient, after a space.
+#[tactic(auto, using(crate::proofs::Hex::length_hex))]
 pub fn put_coefficient(page: &mut Page, x: f64)
     requires { HasRoom page.old (coefficient x) }
     ensures { Wrote page.old (coefficient x) page.new }
 {
     page.put_bytes(b" ");
-    page.put_bytes(&hex_digits(bits_of(x)));
+    let end = page.at + 16;
+    write_hex(&mut page.buffer[page.at..end], bits_of(x));
+    page.at = end;
 }

@@ -11,11 +11,11 @@ use Rattle.rules.specs.Floats.{◌!◌}
 use Rattle.rules.specs.Sheets.{bytes, natural}
 use Rattle.rules.specs.SheetAnswers.{seg_line, refused_output}
 use Rattle.sheet_lines.specs.Output.{table_line, coefficients_of}
-use Rattle.sheet_bits.proofs.Hex.{length-hex}
+use Rattle.sheet_bits.proofs.Hex.{length_hex}
 
 -- J11: 17 bytes a coefficient
 pub length-coefficients : (cs : List Float) → length (coefficients_of cs) ≡ length cs * 17
-length-coefficients cs = length-joined (length cs) 17 _ (λ i l. ap suc (length-hex (to_bits binary64 (cs ! i))))
+length-coefficients cs = length-joined (length cs) 17 _ (λ i l. ap suc (length_hex (to_bits binary64 (cs ! i))))
 
 module _ (a i : ℕ) (cs : List Float) where
   pub line_parts : (bytes "(seg " ++ natural a) ++ ((bytes " " ++ natural i) ++ (coefficients_of cs ++ bytes ")\n")) ≡ seg_line a i cs

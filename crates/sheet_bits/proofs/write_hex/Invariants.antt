@@ -2,7 +2,7 @@
 use mathlib.Core.Path.{◌≡◌}
 use Rattle.law_lists.proofs.Filling.{filled}
 use Rattle.sheet_bits.proofs.Hex.{hex_place}
-use Rattle.sheet_bits.proofs.hex_digits.Given as goal
+use Rattle.sheet_bits.proofs.write_hex.Given as goal
 
 abbrev pub invariant-loop-j : goal.invariant-loop-j
-invariant-loop-j l = l.digit-items ≡ filled l.j (hex_place l.bits) l.initial.digit-items
+invariant-loop-j l = l.places ≡ filled l.j (hex_place l.bits) l.initial.places
