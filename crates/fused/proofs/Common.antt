@@ -2,7 +2,7 @@
 use mathlib.Core.Path.{◌≡◌, refl, sym, ap, ap₂, ◌∙◌, subst}
 use mathlib.Core.Logic.{◌⊎◌, inl, inr}
 use Prim.Native.Nat.{ℕ, ◌+◌, ◌-◌, ◌*◌, ◌/◌, ◌%◌, ◌^◌, ◌≤◌, ◌<◌}
-use native.Mathlib.Nat.{le_trans, le_of_lt, le-add_right, lt_of_le_of_lt, lt_of_lt_of_le, mul_assoc, mod-eq_of_lt, mul-pos, add-zero, sub-zero}
+use native.Mathlib.Nat.{le_trans, le_of_lt, le-add_right, lt_of_le_of_lt, lt_of_lt_of_le, mul_assoc, mul-pos, add-zero, sub-zero}
 use native.Mathlib.Nat.{mul-mul-mul_comm}
 use native.Mathlib.Omega.{arith}
 use mathlib.Core.Bool.{Bool, true, false, not, cond, beq}
@@ -15,9 +15,11 @@ use Rattle.law_rounding.proofs.Numbers.{less_or_not}
 use Rattle.law_rounding.proofs.Sticky.{sticky_le}
 use Rattle.law_rounding.proofs.Word.{sum_sticky}
 use Rattle.law_rounding.proofs.Sums.{sum_same, like_times, more_times, less_times, signs_like, signs_unlike}
+use Rattle.fused_words.specs.declared.Words.{Words}
+use Rattle.fused_words.specs.Words.{value}
 use Rattle.fused_general.specs.Bits.{field, magnitude, Nonzero, summed}
 use Rattle.fused_near.specs.Biased.{biased_sum, Converts}
-use Rattle.fused_near.proofs.Sum.{product_lt, addend_lt}
+use Rattle.fused_near.proofs.Sum.{digits_lt, product_lt, addend_lt}
 use Rattle.law_rounding.proofs.Values.{weight_more}
 
 -- The common case: both factors are between 2 ^ -423 and 2 ^ 427, and the addend's last digit is from 0 to 125 places above the product's.
@@ -91,60 +93,63 @@ at_product x y z n w h =
 
 -- ---- what the conversion comes to
 
-module _ (s : Bool) (p c h l e : ℕ) (r : Float) (l_lt : l < 2 ^ 64) (k : Converts s h l e r) (far : (2 ^ 51 + 4 ≤ h) ⊎ (h + 4 ≤ 2 ^ 51)) where
-  came_like : h * 2 ^ 64 + l ≡ 2 ^ 115 + p + c → r ≡ Ieee.sum binary64 s (p * 2 ^ e) s (c * 2 ^ e) (2 ^ 2150)
+module _ (s : Bool) (p c e : ℕ) (w : Words) (r : Float) (fits : w.low < 2 ^ 64) (k : Converts s w e r) (far : (2 ^ 51 + 4 ≤ w.high) ⊎ (w.high + 4 ≤ 2 ^ 51)) where
+  came_like : value w ≡ 2 ^ 115 + p + c → r ≡ Ieee.sum binary64 s (p * 2 ^ e) s (c * 2 ^ e) (2 ^ 2150)
   came_like y = elim far [
     | inl g ↦
-        k.above g ∙ ap (λ (n : ℕ). round binary64 s (n * 2 ^ e) (2 ^ 2150)) (off h l p c y g) ∙ sym (like_times binary64 s p c (2 ^ e) (2 ^ 2150))
-    | inr g ↦ absurd (no h l p c l_lt y g)
+        k.above g ∙ ap (λ (n : ℕ). round binary64 s (n * 2 ^ e) (2 ^ 2150)) (off (value w) p c y) ∙ sym (like_times binary64 s p c (2 ^ e) (2 ^ 2150))
+    | inr g ↦ absurd (no w.high w.low p c fits y g)
   ]
     where
-      off : (h l p c : ℕ) → h * 2 ^ 64 + l ≡ 2 ^ 115 + p + c → 2 ^ 51 + 4 ≤ h → (h - 2 ^ 51) * 2 ^ 64 + l ≡ p + c
-      off h l p c y g = omega arith
+      off : (n p c : ℕ) → n ≡ 2 ^ 115 + p + c → n - 2 ^ 115 ≡ p + c
+      off n p c y = omega arith
 
       no : (h l p c : ℕ) → l < 2 ^ 64 → h * 2 ^ 64 + l ≡ 2 ^ 115 + p + c → h + 4 ≤ 2 ^ 51 → ⊥
       no h l p c i y g = omega arith
 
-  came_unlike : c ≤ 2 ^ 115 + p → h * 2 ^ 64 + l ≡ 2 ^ 115 + p - c → r ≡ Ieee.sum binary64 s (p * 2 ^ e) (not s) (c * 2 ^ e) (2 ^ 2150)
+  came_unlike : c ≤ 2 ^ 115 + p → value w ≡ 2 ^ 115 + p - c → r ≡ Ieee.sum binary64 s (p * 2 ^ e) (not s) (c * 2 ^ e) (2 ^ 2150)
   came_unlike i y = elim far [
     | inl g ↦
-        let m = more h l p c i y g in
+        let m = more w.high w.low p c i y g in
         k.above g ∙ ap (λ (n : ℕ). round binary64 s (n * 2 ^ e) (2 ^ 2150)) m.0 ∙ sym (more_times binary64 s p c (2 ^ e) (2 ^ 2150) (pow_pos e) m.1)
     | inr g ↦
-        let m = fewer h l p c l_lt i y g in
+        let m = fewer w.high w.low p c fits i y g in
         k.below g
         ∙ ap (λ (n : ℕ). round binary64 (not s) (n * 2 ^ e) (2 ^ 2150)) m.0
         ∙ sym (less_times binary64 s p c (2 ^ e) (2 ^ 2150) (pow_pos e) m.1)
   ]
     where
-      more : (h l p c : ℕ) → c ≤ 2 ^ 115 + p → h * 2 ^ 64 + l ≡ 2 ^ 115 + p - c → 2 ^ 51 + 4 ≤ h → ((h - 2 ^ 51) * 2 ^ 64 + l ≡ p - c) × (c < p)
+      more : (h l p c : ℕ) → c ≤ 2 ^ 115 + p → h * 2 ^ 64 + l ≡ 2 ^ 115 + p - c → 2 ^ 51 + 4 ≤ h → (h * 2 ^ 64 + l - 2 ^ 115 ≡ p - c) × (c < p)
       more h l p c i y g = (omega arith, omega arith)
 
-      fewer : (h l p c : ℕ) → l < 2 ^ 64 → c ≤ 2 ^ 115 + p → h * 2 ^ 64 + l ≡ 2 ^ 115 + p - c → h + 4 ≤ 2 ^ 51 → ((2 ^ 51 - h) * 2 ^ 64 - l ≡ c - p) × (p < c)
+      fewer : (h l p c : ℕ) → l < 2 ^ 64 → c ≤ 2 ^ 115 + p → h * 2 ^ 64 + l ≡ 2 ^ 115 + p - c → h + 4 ≤ 2 ^ 51 → (2 ^ 115 - (h * 2 ^ 64 + l) ≡ c - p) × (p < c)
       fewer h l p c j i y g = (omega arith, omega arith)
 
-  pub came : (t : Bool) → c ≤ 2 ^ 115 + p → h * 2 ^ 64 + l ≡ cond (beq s t) (2 ^ 115 + p + c) (2 ^ 115 + p - c)
+  pub came : (t : Bool) → c ≤ 2 ^ 115 + p → value w ≡ cond (beq s t) (2 ^ 115 + p + c) (2 ^ 115 + p - c)
       → r ≡ Ieee.sum binary64 s (p * 2 ^ e) t (c * 2 ^ e) (2 ^ 2150)
   came t i y = go (beq s t) refl y
     where
-      go : (b : Bool) → beq s t ≡ b → h * 2 ^ 64 + l ≡ cond b (2 ^ 115 + p + c) (2 ^ 115 + p - c)
+      go : (b : Bool) → beq s t ≡ b → value w ≡ cond b (2 ^ 115 + p + c) (2 ^ 115 + p - c)
           → r ≡ Ieee.sum binary64 s (p * 2 ^ e) t (c * 2 ^ e) (2 ^ 2150)
       go true q y = subst (λ (u : Bool). r ≡ Ieee.sum binary64 s (p * 2 ^ e) u (c * 2 ^ e) (2 ^ 2150)) (sym (signs_like s t q)) (came_like y)
       go false q y = subst (λ (u : Bool). r ≡ Ieee.sum binary64 s (p * 2 ^ e) u (c * 2 ^ e) (2 ^ 2150)) (sym (signs_unlike s t q)) (came_unlike i y)
 
--- a wrapping difference that is small did not wrap
-within : (a b r : ℕ) → b < 2900 → (r + b) % 2 ^ 64 ≡ a → r < 126 → (b ≤ a) × (a < b + 126) × (a - b ≡ r)
-within a b r l w k =
-    let e : r + b ≡ a = sym (mod-eq_of_lt (omega (arith, k, l))) ∙ w in
-    (omega (arith, e), omega (arith, e, k), omega (arith, e))
+-- how many places the addend's last digit is above the product's, as the code has it: a wrapping difference, which did not wrap where it is small
+abbrev pub above : ℕ → ℕ → ℕ → ℕ
+above x y z = (field z + 1075 + (2 ^ 64 - (field x + field y))) % 2 ^ 64
 
-pub is_common : (x y z r : ℕ) → (600 ≤ field x) × (field x < 1450) × (600 ≤ field y) × (field y < 1450) × (r < 126)
-    → (r + (field x + field y)) % 2 ^ 64 ≡ field z + 1075
-    → Common x y z × (field z + 1075 - (field x + field y) ≡ r)
-is_common x y z r (a, b, c, d, k) w =
-    let i = within (field z + 1075) (field x + field y) r (under (field x) (field y) b d) w k in
+within : (a b : ℕ) → a < 3200 → b < 2900 → (a + (2 ^ 64 - b)) % 2 ^ 64 < 126 → (b ≤ a) × (a < b + 126) × (a - b ≡ (a + (2 ^ 64 - b)) % 2 ^ 64)
+within a b i j k = (omega arith, omega arith, omega arith)
+
+pub is_common : (x y z : ℕ) → (600 ≤ field x) × (field x < 1450) × (600 ≤ field y) × (field y < 1450) × (above x y z < 126)
+    → Common x y z × (field z + 1075 - (field x + field y) ≡ above x y z)
+is_common x y z (a, b, c, d, k) =
+    let i = within (field z + 1075) (field x + field y) (over z) (under (field x) (field y) b d) k in
     ((a, b, c, d, i.0, i.1), i.2)
   where
+    over : (z : ℕ) → z % 2 ^ 63 / 2 ^ 52 + 1075 < 3200
+    over z = omega arith
+
     under : (f g : ℕ) → f < 1450 → g < 1450 → f + g < 2900
     under f g b d = omega arith
 
@@ -195,32 +200,30 @@ product_seen s t p q m n e g' i j k = elim (less_or_not 62 n) [
         ap (λ (b : ℕ). b * 2 ^ 2150) (ap (λ (b : ℕ). a * b) (pow-add 2 e f) ∙ sym (mul_assoc a (2 ^ e) (2 ^ f))) ∙ mul_assoc (a * 2 ^ e) (2 ^ f) (2 ^ 2150)
 
 -- The words converted are the sum of the magnitudes: what the common case comes to.
-common_sum : (x y z n h l q : ℕ) (r : Float) → Common x y z → field z + 1075 - (field x + field y) ≡ n → n < 126 → l < 2 ^ 64
+pub common_sum : (x y z n q : ℕ) (w : Words) (r : Float) → Common x y z → field z + 1075 - (field x + field y) ≡ n → n < 126 → w.low < 2 ^ 64
     → Sticky (2 ^ (n - 62)) ((2 ^ 52 + x % 2 ^ 52) * (2 ^ 52 + y % 2 ^ 52)) q
-    → h * 2 ^ 64 + l ≡ biased_sum (beq (unlike (leb (2 ^ 63) x) (leb (2 ^ 63) y)) (leb (2 ^ 63) z)) q z (n - (n - 62))
-    → Converts (unlike (leb (2 ^ 63) x) (leb (2 ^ 63) y)) h l (field x + field y + (n - 62)) r
-    → (2 ^ 51 + 4 ≤ h) ⊎ (h + 4 ≤ 2 ^ 51) → r ≡ summed x y z
-common_sum x y z n h l q r w e m k v y' t f =
+    → value w ≡ biased_sum (beq (unlike (leb (2 ^ 63) x) (leb (2 ^ 63) y)) (leb (2 ^ 63) z)) q z (n - (n - 62))
+    → Converts (unlike (leb (2 ^ 63) x) (leb (2 ^ 63) y)) w (field x + field y + (n - 62)) r
+    → (2 ^ 51 + 4 ≤ w.high) ⊎ (w.high + 4 ≤ 2 ^ 51) → r ≡ summed x y z
+common_sum x y z n q w r common e m k v y' t f =
     let s = unlike (leb (2 ^ 63) x) (leb (2 ^ 63) y) in
     let p = (2 ^ 52 + x % 2 ^ 52) * (2 ^ 52 + y % 2 ^ 52) in
     let d = 2 ^ 52 + z % 2 ^ 52 in
     let c = d * 2 ^ (n - (n - 62)) in
-    came s q c h l (field x + field y + (n - 62)) r k t f (leb (2 ^ 63) z)
-    (le_trans (le_of_lt (addend_lt z (n - (n - 62)) (excess_room n m).0)) (le-add_right (2 ^ 115) q)) y'
-    ∙ product_seen s (leb (2 ^ 63) z) p q d n (field x + field y) (common_fields x y z w).4 (product_lt x y) (le-add_right (2 ^ 52) (z % 2 ^ 52)) v
-    ∙ sym (at_product x y z n w e)
+    came s q c (field x + field y + (n - 62)) w r k t f (leb (2 ^ 63) z)
+    (le_trans (le_of_lt (addend_lt d (n - (n - 62)) (digits_lt z) (excess_room n m).0)) (le-add_right (2 ^ 115) q)) y'
+    ∙ product_seen s (leb (2 ^ 63) z) p q d n (field x + field y) (common_fields x y z common).4 (product_lt x y) (le-add_right (2 ^ 52) (z % 2 ^ 52)) v
+    ∙ sym (at_product x y z n common e)
 
 -- the same with the shift as the code has it
-pub common_shifted : (x y z n far h l q : ℕ) (r : Float) → far ≡ n - 62 → Common x y z → field z + 1075 - (field x + field y) ≡ n → n < 126 → l < 2 ^ 64
+pub common_shifted : (x y z n far q : ℕ) (w : Words) (r : Float) → far ≡ n - 62 → Common x y z → field z + 1075 - (field x + field y) ≡ n → n < 126
+    → w.low < 2 ^ 64
     → Sticky (2 ^ far) ((2 ^ 52 + x % 2 ^ 52) * (2 ^ 52 + y % 2 ^ 52)) q
-    → h * 2 ^ 64 + l ≡ biased_sum (beq (unlike (leb (2 ^ 63) x) (leb (2 ^ 63) y)) (leb (2 ^ 63) z)) q z (n - far)
-    → Converts (unlike (leb (2 ^ 63) x) (leb (2 ^ 63) y)) h l (field x + field y + far) r
-    → (2 ^ 51 + 4 ≤ h) ⊎ (h + 4 ≤ 2 ^ 51) → r ≡ summed x y z
-common_shifted x y z n far h l q r e w d m k v b t f =
-    common_sum x y z n h l q r w d m k
+    → value w ≡ biased_sum (beq (unlike (leb (2 ^ 63) x) (leb (2 ^ 63) y)) (leb (2 ^ 63) z)) q z (n - far)
+    → Converts (unlike (leb (2 ^ 63) x) (leb (2 ^ 63) y)) w (field x + field y + far) r
+    → (2 ^ 51 + 4 ≤ w.high) ⊎ (w.high + 4 ≤ 2 ^ 51) → r ≡ summed x y z
+common_shifted x y z n far q w r e common d m k v b t f =
+    common_sum x y z n q w r common d m k
     (subst (λ (i : ℕ). Sticky (2 ^ i) ((2 ^ 52 + x % 2 ^ 52) * (2 ^ 52 + y % 2 ^ 52)) q) e v)
-    (subst (λ (i : ℕ). h * 2 ^ 64 + l ≡ biased_sum (beq (unlike (leb (2 ^ 63) x) (leb (2 ^ 63) y)) (leb (2 ^ 63) z)) q z (n - i)) e b)
-    (subst (λ (i : ℕ). Converts (unlike (leb (2 ^ 63) x) (leb (2 ^ 63) y)) h l (field x + field y + i) r) e t) f
-
-pub shift_room : (n far : ℕ) → far ≡ n - 62 → n < 126 → far < 64
-shift_room n far e h = omega arith
+    (subst (λ (i : ℕ). value w ≡ biased_sum (beq (unlike (leb (2 ^ 63) x) (leb (2 ^ 63) y)) (leb (2 ^ 63) z)) q z (n - i)) e b)
+    (subst (λ (i : ℕ). Converts (unlike (leb (2 ^ 63) x) (leb (2 ^ 63) y)) w (field x + field y + i) r) e t) f

@@ -10,6 +10,7 @@ use lib.Ieee.{Float, nan, inf, fin, Format, unlike, up, down, round, sum, add, m
 use lib.Ieee.Fits.{down_pos}
 use lib.Ieee.Exact.{HasValue}
 use lib.Ieee.Scale.{finite}
+use Rattle.std.specs.Float.{float_is_finite}
 use Rattle.rules.specs.Fused.{exact_product, fused}
 use Rattle.law_rounding.proofs.Sums.{by_signs, sum_like, sum_more}
 use Rattle.law_rounding.proofs.Values.{power_add, cross_product, value_scaled, add_values, mul_values, round_zero}
@@ -82,8 +83,8 @@ differ : true ≡ false → ⊥
 differ e = subst T e tt
 
 -- the product is not rounded
-unrounded : (f : Format) (x y : Float) → (finite x ≡ false) ⊎ (finite y ≡ false) → mul f x y ≡ exact_product x y
-unfolding mul exact_product
+unrounded : (f : Format) (x y : Float) → (float_is_finite x ≡ false) ⊎ (float_is_finite y ≡ false) → mul f x y ≡ exact_product x y
+unfolding mul exact_product float_is_finite
 unrounded f nan y h = refl
 unrounded f (inf s) nan h = refl
 unrounded f (inf s) (inf t) h = refl
@@ -93,12 +94,12 @@ unrounded f (fin s m e) (inf t) h = refl
 unrounded f (fin s m e) (fin t n d) (inl h) = absurd (differ h)
 unrounded f (fin s m e) (fin t n d) (inr h) = absurd (differ h)
 
-pub factor_not_finite : (f : Format) (x y z : Float) → (finite x ≡ false) ⊎ (finite y ≡ false) → add f (mul f x y) z ≡ fused f x y z
+pub factor_not_finite : (f : Format) (x y z : Float) → (float_is_finite x ≡ false) ⊎ (float_is_finite y ≡ false) → add f (mul f x y) z ≡ fused f x y z
 unfolding fused
 factor_not_finite f x y z h = ap (λ (m : Float). add f m z) (unrounded f x y h)
 
-pub addend_not_finite : (f : Format) (x y z : Float) → finite x ≡ true → finite y ≡ true → finite z ≡ false → z ≡ fused f x y z
-unfolding fused add exact_product
+pub addend_not_finite : (f : Format) (x y z : Float) → float_is_finite x ≡ true → float_is_finite y ≡ true → float_is_finite z ≡ false → z ≡ fused f x y z
+unfolding fused add exact_product float_is_finite
 addend_not_finite f nan y z h k l = absurd (differ (sym h))
 addend_not_finite f (inf s) y z h k l = absurd (differ (sym h))
 addend_not_finite f (fin s m e) nan z h k l = absurd (differ (sym k))
@@ -107,8 +108,15 @@ addend_not_finite f (fin s m e) (fin t n d) nan h k l = refl
 addend_not_finite f (fin s m e) (fin t n d) (inf u) h k l = refl
 addend_not_finite f (fin s m e) (fin t n d) (fin u r i) h k l = absurd (differ l)
 
-pub finite_no_nan : (x : Float) → finite x ≡ true → T (not (is_nan x))
-unfolding is_nan
+pub finite_no_nan : (x : Float) → float_is_finite x ≡ true → T (not (is_nan x))
+unfolding is_nan float_is_finite
 finite_no_nan nan h = absurd (differ (sym h))
 finite_no_nan (inf s) h = tt
 finite_no_nan (fin s m e) h = tt
+
+-- std's test is the one that the laws of rounding speak of
+pub same_finite : (x : Float) → float_is_finite x ≡ finite x
+unfolding float_is_finite
+same_finite nan = refl
+same_finite (inf s) = refl
+same_finite (fin s m e) = refl

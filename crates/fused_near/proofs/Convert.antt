@@ -5,7 +5,7 @@ use Prim.Native.Nat.{ℕ, suc, ◌+◌, ◌-◌, ◌*◌, ◌/◌, ◌%◌, ◌^
 use native.Mathlib.Nat.{le_of_eq, le_of_lt, lt_of_lt_of_le, lt_of_le_of_lt, mul_assoc, div-add-mod', le-add_right, eq-zero-or-pos}
 use native.Mathlib.Omega.{arith}
 use mathlib.Core.Bool.{Bool, true, false, not, cond}
-use lib.Dec.{T, leb, ltb, lit≤, le→leb, lt→ltb}
+use lib.Dec.{leb, ltb, lit≤, le→leb, lt→ltb}
 use lib.Arith.{lt→nleb, le→nltb}
 use lib.IntN.{ℤ, pos, negsuc, ◌-ℤ◌, sub_ℕ}
 use lib.Pow.{pow-add, pow_pos, pow_mono, shr-shr, shl_lt}
@@ -58,17 +58,15 @@ module _ (k : ℕ) (p : 0 < k) (q : k < 2047) where
       sums : (k : ℕ) → 0 < k → 52 + (k - 1) ≡ k + 51
       sums k h = omega arith
 
-  pub power_negative : HasValue (of_bits binary64 (2 ^ 63 + k * 2 ^ 52)) true (2 ^ (k + 51)) (2 ^ 1074)
-  power_negative =
+  pub power_value : (s : Bool) → HasValue (of_bits binary64 (cond s (2 ^ 63) 0 + k * 2 ^ 52)) s (2 ^ (k + 51)) (2 ^ 1074)
+  power_value true =
       subst (λ (s : Bool). HasValue (of_bits binary64 (2 ^ 63 + k * 2 ^ 52)) s (2 ^ (k + 51)) (2 ^ 1074))
       (is_true (leb (2 ^ 63) (2 ^ 63 + k * 2 ^ 52)) (le→leb (2 ^ 63) (2 ^ 63 + k * 2 ^ 52) (le-add_right (2 ^ 63) (k * 2 ^ 52))))
       (pattern_value (2 ^ 63 + k * 2 ^ 52) (omega arith) (omega arith))
-
-  pub power_positive : HasValue (of_bits binary64 (k * 2 ^ 52)) false (2 ^ (k + 51)) (2 ^ 1074)
-  power_positive =
-      subst (λ (s : Bool). HasValue (of_bits binary64 (k * 2 ^ 52)) s (2 ^ (k + 51)) (2 ^ 1074))
-      (is_false (leb (2 ^ 63) (k * 2 ^ 52)) (lt→nleb (2 ^ 63) (k * 2 ^ 52) (omega arith)))
-      (pattern_value (k * 2 ^ 52) (omega arith) (omega arith))
+  power_value false =
+      subst (λ (s : Bool). HasValue (of_bits binary64 (0 + k * 2 ^ 52)) s (2 ^ (k + 51)) (2 ^ 1074))
+      (is_false (leb (2 ^ 63) (0 + k * 2 ^ 52)) (lt→nleb (2 ^ 63) (0 + k * 2 ^ 52) (omega arith)))
+      (pattern_value (0 + k * 2 ^ 52) (omega arith) (omega arith))
 
 -- ---- `unbiased`
 
@@ -89,18 +87,13 @@ module _ (h : ℕ) (h-lt : h < 2 ^ 53) where
     | inr g ↦ subst P (sym (above g)) (p (h - 2 ^ 51) (omega arith))
   ]
 
-  pub difference_fits : SFits w64 (to_z w64 h -ℤ pos (2 ^ 51))
+  difference_fits : SFits w64 (to_z w64 h -ℤ pos (2 ^ 51))
   difference_fits =
       subst (SFits w64) (sym number)
       (by_sign (SFits w64) (λ n l. record { sfits = lt_of_lt_of_le l (lit≤ tt) }) (λ n l. record { sfits = lt_of_lt_of_le l (lit≤ tt) }))
 
   as_number : to_z w64 (of_z w64 (to_z w64 h -ℤ pos (2 ^ 51))) ≡ sub_ℕ h (2 ^ 51)
   as_number = to_z-of_z difference_fits ∙ number
-
-  pub exact_cast : T (in_float binary64 (to_z w64 (of_z w64 (to_z w64 h -ℤ pos (2 ^ 51)))))
-  exact_cast =
-      subst (λ (z : ℤ). T (in_float binary64 z)) (sym as_number)
-      (unfold in_float in by_sign (λ (z : ℤ). T (in_float binary64 z)) (λ n l. le→leb n (2 ^ 53) (le_of_lt l)) (λ n l. lt→ltb n (2 ^ 53) l))
 
   pub unbiased_above : 2 ^ 51 < h → HasValue (of_int binary64 (to_z w64 (of_z w64 (to_z w64 h -ℤ pos (2 ^ 51))))) false (h - 2 ^ 51) 1
   unbiased_above l =
@@ -212,6 +205,9 @@ module _ (s : Bool) (h l j e : ℕ) (u p q : Float) (h-lt : h < 2 ^ 53) (h-ge : 
       turned true = refl
       turned false = refl
 
-pub fits_float : (j : ℕ) → j < 2 ^ 53 → T (in_float binary64 (pos j))
-unfolding in_float
-fits_float j l = le→leb j (2 ^ 53) (le_of_lt l)
+-- what the bias adds, taken off
+pub off_above : (h l : ℕ) → 2 ^ 51 + 4 ≤ h → (h - 2 ^ 51) * 2 ^ 64 + l ≡ h * 2 ^ 64 + l - 2 ^ 115
+off_above h l g = omega arith
+
+pub off_below : (h l : ℕ) → h + 4 ≤ 2 ^ 51 → (2 ^ 51 - h) * 2 ^ 64 - l ≡ 2 ^ 115 - (h * 2 ^ 64 + l)
+off_below h l g = omega arith

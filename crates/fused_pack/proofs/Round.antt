@@ -1,48 +1,26 @@
 -- From leading bits to a rounded fraction: what the steps of the code come to. Assumes nothing.
 use mathlib.Core.Path.{◌≡◌, refl, sym, ap, ap₂, ◌∙◌, subst}
 use mathlib.Core.Logic.{inl, inr}
-use Prim.Native.Nat.{ℕ, suc, ◌+◌, ◌-◌, ◌*◌, ◌/◌, ◌%◌, ◌^◌, ◌≤◌, ◌<◌, compare}
+use Prim.Native.Nat.{ℕ, ◌+◌, ◌-◌, ◌*◌, ◌/◌, ◌%◌, ◌^◌, ◌≤◌, ◌<◌}
 use native.Mathlib.Nat.{le_of_eq, le_trans, mul_assoc, mul_comm, mul_right_comm, mul-pos, add-mul, mod-lt, mod-eq_of_lt, div-add-mod', eq-zero-or-pos}
-use native.Mathlib.Nat.{lt_of_mul-lt-mul_right, add-zero, zero-mul, le_antisymm, le-add_right}
+use native.Mathlib.Nat.{lt_of_mul-lt-mul_right, add-zero, zero-mul, le-add_right}
 use native.Mathlib.Omega.{arith}
 use mathlib.Core.Bool.{Bool}
 use lib.Dec.{lit≤}
 use lib.Arith.{digits_lt}
 use lib.Pow.{pow-add, pow_pos, shr_lt, shr-shr}
-use lib.Ieee.{Float, binary64, round, nearest}
-use lib.Ieee.Fits.{nearest-le}
-use lib.Ieee.Nearest.{closest}
+use lib.Ieee.{Float, binary64, round}
 use Rattle.law_rounding.specs.Sticky.{Sticky}
-use Rattle.law_rounding.proofs.Numbers.{less_or_not, compare_lt, compare_gt, compare_eq}
 use Rattle.law_rounding.proofs.Sticky.{sticky_cut, sticky_again}
 use Rattle.law_rounding.proofs.Word.{round_word}
 use Rattle.law_rounding.proofs.Values.{round_shift}
 use Rattle.fused_words.proofs.Shift.{Marked, moved}
 use Rattle.fused_pack.specs.Rounds.{Patterned}
 
--- half the unit, less one, and one more where the whole part is odd: the sum reaches the next unit just where the whole part is to move up
-pub nearest_is : (w : ℕ) → w / 2048 + (w % 2048 + 1023 + w / 2048 % 2) / 2048 ≡ closest w 2048
-nearest_is w = elim (less_or_not (w % 2048 * 2) 2048) [
-  | inl l ↦ below w l ∙ ap (nearest (w / 2048)) (sym (compare_lt (w % 2048 * 2) 2048 l))
-  | inr g ↦ elim (less_or_not 2048 (w % 2048 * 2)) [
-    | inl l ↦ above w l ∙ ap (nearest (w / 2048)) (sym (compare_gt (w % 2048 * 2) 2048 l))
-    | inr h ↦ let e = le_antisymm h g in tie w e ∙ ap (nearest (w / 2048)) (sym (compare_eq (w % 2048 * 2) 2048 e))
-  ]
-]
-  where
-    below : (w : ℕ) → w % 2048 * 2 < 2048 → w / 2048 + (w % 2048 + 1023 + w / 2048 % 2) / 2048 ≡ w / 2048
-    below w l = omega arith
-
-    above : (w : ℕ) → 2048 < w % 2048 * 2 → w / 2048 + (w % 2048 + 1023 + w / 2048 % 2) / 2048 ≡ suc (w / 2048)
-    above w l = omega arith
-
-    tie : (w : ℕ) → w % 2048 * 2 ≡ 2048 → w / 2048 + (w % 2048 + 1023 + w / 2048 % 2) / 2048 ≡ w / 2048 + w / 2048 % 2
-    tie w l = omega arith
-
 moved_power : (v a b : ℕ) → 2 ^ a * v * 2 ^ b ≡ v * 2 ^ (a + b)
 moved_power v a b = ap (λ (n : ℕ). n * 2 ^ b) (mul_comm (2 ^ a) v) ∙ mul_assoc v (2 ^ a) (2 ^ b) ∙ ap (λ (n : ℕ). v * n) (sym (pow-add 2 a b))
 
--- ---- `rounded`: below the smallest normal value the word is cut to the smallest value's place
+-- ---- `rounded_word`: below the smallest normal value the word is cut to the smallest value's place
 
 pub rounded_low : (s : Bool) (w g y v x : ℕ) → g < 1251 → y < 2 ^ 64 → Sticky (2 ^ (1251 - g)) w y → 0 < v → Sticky v x w
     → Patterned s y 0 ≡ round binary64 s (x * 2 ^ g) (v * 2 ^ 2336)
@@ -63,7 +41,7 @@ rounded_high s w g v x l h u p k = sym (round_word binary64 s v x w g 2336 (g - 
     sums : (g : ℕ) → 1251 ≤ g → g + 1074 + 11 ≡ 2336 + (g - 1251)
     sums g l = omega arith
 
--- ---- `leading`: the word that starts at the leading bit
+-- ---- `Term::leading`: the word that starts at the leading bit
 
 module _ (h l z : ℕ) (z-lt : z < 64) (h-lt : h * 2 ^ z < 2 ^ 64) (l_lt : l < 2 ^ 64) where
   shifted_in : l / 2 / 2 ^ (63 - z) ≡ l / 2 ^ (64 - z)
@@ -128,11 +106,7 @@ leading_round s e z v x l p =
     sums : (e z : ℕ) → z < 64 → e + 64 - z + 2336 ≡ e + (64 - z + 2336)
     sums e z h = omega arith
 
--- the digits kept of a word, with a carry
-pub nearest_lt : (w : ℕ) → w < 2 ^ 64 → closest w (2 ^ 11) ≤ 2 ^ 53
-nearest_lt w h = le_trans (nearest-le (w / 2 ^ 11) (compare (w % 2 ^ 11 * 2) (2 ^ 11))) (shr_lt 53 11 h)
-
--- ---- `from_words`
+-- ---- `Term::rounded`
 
 pub one_word : (s : Bool) (l e : ℕ) (r : Float) → ((v x : ℕ) → 0 < v → Sticky v x (l * 2 ^ 64 + 0) → r ≡ round binary64 s (x * 2 ^ e) (v * 2 ^ 2336))
     → (v x : ℕ) → 0 < v → x ≡ l * v → r ≡ round binary64 s (x * 2 ^ e) (v * 2 ^ 2272)
