@@ -12,9 +12,9 @@ pub record Shaped (m : ℕ) (w end table : List ℤ) : Type 0 where
   pub end_is : length end ≡ m
   pub table_is : length table ≡ (length w - 1) * (2 * m + 2)
 
--- of the sums r = 0, 1, .. at a segment's end, those from r = 1 on, so many, are the numbers of a list from a place on
-unfoldable pub meets_at : List ℤ → List ℤ → ℕ → ℕ → Bool
-meets_at sums numbers from count = every count (λ r. same (at sums (suc r)) (at numbers (from + r)))
+-- of the sums r = 0, 1, .. at a segment's end, those from r = 1 on are the numbers of a list, as far as it goes
+unfoldable pub meets_at : List ℤ → List ℤ → Bool
+meets_at sums numbers = every (length numbers) (λ r. same (at sums (suc r)) (at numbers r))
 
 -- segment i starts and ends at its waypoints, and ends as the next segment starts, the last one as the end state says
 unfoldable pub segment_meets : ℕ → List ℤ → List ℤ → List ℤ → ℕ → Bool
