@@ -47,7 +47,7 @@ fn rounded_word(negative: bool, w: u64, g: u64) -> f64
     }
 }
 
-// `words` * 2^`exponent`, with its sign.
+// `words` * 2^`exponent`, with its sign. The sign stands beside the words, as in a float: a zero has one, too.
 #[derive(Clone, Copy)]
 pub struct Term {
     pub negative: bool,
@@ -78,18 +78,17 @@ impl Term {
         ensures { Rounds self result }
     {
         let Words { high, low } = self.words;
-        if high == 0 {
+        let term = if high == 0 {
             Term {
                 words: Words { high: low, low: 0 },
                 ..self
             }
-            .leading()
         } else {
             Term {
                 exponent: self.exponent + 64,
                 ..self
             }
-            .leading()
-        }
+        };
+        term.leading()
     }
 }
