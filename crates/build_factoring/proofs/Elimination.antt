@@ -1,12 +1,12 @@
 -- A matrix eliminated below row k in place: row by row, and each row cell by cell, from left to right. Assumes nothing.
-use mathlib.Core.Path.{◌≡◌, refl, sym, ap, ◌∙◌, subst}
+use mathlib.Core.Path.{◌≡◌, sym, ap, ◌∙◌, subst}
 use mathlib.Core.List.{List}
 use Prim.Native.Nat.{ℕ, ◌+◌, ◌-◌, ◌*◌, ◌/◌, ◌%◌, ◌<◌, ◌≤◌}
 use native.Mathlib.Numerals.{add-one}
 use native.Mathlib.Nat.{suc-mul, mul-le-mul_right, div-lt_iff_lt-mul, div-add-mod', le_of_eq}
 use native.Mathlib.Omega.{arith}
-use borrow.Author.Tests.{lt-ltb, le-ltb, lt-leb, le-leb, eq-eqb, ne_eqb}
 use lib.ListN.{length, get_or, set}
+use Rattle.std.proofs.lemmas.Bool.Decides.{nat_tests}
 use lib.Ieee.{Float, nan}
 use Rattle.rules.specs.Floats.{◌!◌, ◌⊖◌, ◌⊗◌, ◌⊘◌, +0, +1}
 use Rattle.rules.specs.Solve.{entry, matrix, Factored, eliminated}
@@ -19,7 +19,7 @@ use Rattle.rules.proofs.Cells.{read}
 
 -- the rows at and above k stay
 stays_above : (m k : ℕ) (reciprocal : Float) (b : List Float) (i j : ℕ) → i ≤ k → eliminated_entry m k reciprocal b i j ≡ entry m b i j
-stays_above m k reciprocal b i j h = rw (le-leb i k h)
+stays_above m k reciprocal b i j h = grind (arith, nat_tests)
 
 -- the elimination so far, inside row i: the columns below j are done
 abbrev pub row_done : ℕ → ℕ → Float → List Float → ℕ → ℕ → List Float
@@ -52,13 +52,13 @@ module _ (m k : ℕ) (reciprocal : Float) (b : List Float) (i : ℕ) (h : k < i)
   multiplier = entry m b i k ⊗ reciprocal
 
   stays_left : (j : ℕ) → j < k → G (i * m + j) ≡ entry m b i j
-  stays_left j d = flat_at m (eliminated_entry m k reciprocal b) i j (omega arith) ∙ rw (lt-leb i k h, lt-ltb j k d)
+  stays_left j d = flat_at m (eliminated_entry m k reciprocal b) i j (omega arith) ∙ grind (arith, nat_tests)
 
   at_k : G (i * m + k) ≡ multiplier
-  at_k = flat_at m (eliminated_entry m k reciprocal b) i k (omega arith) ∙ rw (lt-leb i k h, le-ltb k k (omega arith), eq-eqb k k refl)
+  at_k = flat_at m (eliminated_entry m k reciprocal b) i k (omega arith) ∙ grind (arith, nat_tests)
 
   past_k : (j : ℕ) → k < j → j < m → G (i * m + j) ≡ entry m b i j ⊖ multiplier ⊗ entry m b k j
-  past_k j d e = flat_at m (eliminated_entry m k reciprocal b) i j e ∙ rw (lt-leb i k h, le-ltb j k (omega arith), ne_eqb j k (λ q. omega arith))
+  past_k j d e = flat_at m (eliminated_entry m k reciprocal b) i j e ∙ grind (arith, nat_tests)
 
   -- what is still as it was
   behind : (a : List Float) (t q : ℕ) → a ≡ filled t G b → t ≤ q → q < m * m → get_or a q nan ≡ b ! q

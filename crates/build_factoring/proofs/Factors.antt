@@ -1,12 +1,12 @@
 -- A step of factoring, from what its parts give; and that factoring gives m by m entries and m rows, each a row of the matrix. Assumes nothing.
 use mathlib.Core.Path.{◌≡◌}
-use mathlib.Core.Bool.{Bool, true, false, cond}
 use mathlib.Core.List.{List, []}
 use Prim.Native.Nat.{ℕ, zero, suc, ◌+◌, ◌-◌, ◌*◌, ◌<◌, ◌≤◌}
 use native.Mathlib.Numerals.{add-one}
 use native.Mathlib.Omega.{arith}
 use lib.ListN.{length, get_or}
-use lib.Ieee.{Float, lt}
+use lib.Ieee.{Float}
+use Rattle.std.proofs.lemmas.Bool.Decides.{nat_tests}
 use Rattle.law_lists.specs.Lists.{listed}
 use Rattle.rules.specs.Solve.{entry, matrix, pivot_row, exchange, exchanged, eliminated, factor_steps, factor}
 use Rattle.law_lists.proofs.Lists.{length-listed}
@@ -17,11 +17,7 @@ use Rattle.build_pivots.proofs.Exchange.{exchange_below}
 pivot_below : (m : ℕ) (a : List Float) (k d : ℕ) → k + d < m → pivot_row m a k d < m
 unfolding pivot_row
 pivot_below m a k zero h = omega arith
-pivot_below m a k (suc d) h = go (lt _ _) (pivot_below m a k d (omega arith))
-  where
-    go : (t : Bool) → pivot_row m a k d < m → cond t (k + suc d) (pivot_row m a k d) < m
-    go true l = h
-    go false l = l
+pivot_below m a k (suc d) h = grind (arith, nat_tests, pivot_below m a k d (omega arith))
 
 module _ (m : ℕ) (a : List Float) where
   -- a step, from what its parts give
