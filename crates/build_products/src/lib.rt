@@ -33,15 +33,3 @@ pub fn subtract_product(m: usize, a: &[f64], u: &[f64], v: &mut [f64])
         *x -= dot(a, i, m, u);
     }
 }
-
-// One list copied into another of its length.
-pub fn copy(from: &[f64], to: &mut [f64])
-    requires { length to.old ≡ length from.now }
-    ensures { to.new ≡ from.now }
-{
-    let mut q = 0;
-    while q < from.len() {
-        to[q] = from[q];
-        q += 1;
-    }
-}
