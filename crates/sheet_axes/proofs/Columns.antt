@@ -11,7 +11,10 @@ use borrow.Author.Tests.{eqb-true, eqb-false, eq-eqb, ne_eqb}
 use Rattle.law_lists.specs.Lists.{all}
 use Rattle.rules.specs.Sheets.{Axis}
 use Rattle.rules.specs.SheetAnswers.{of_each, columns_of}
-use Rattle.sheet_sizes.specs.Sizes.{together_of}
+
+-- J26: how many numbers each list has so far, with one more, where k lists were there
+abbrev pub together_of : ℕ → ℕ → ℕ → ℕ
+together_of k sofar n = cond (eqb k 0) n (cond (eqb sofar n) n 0)
 
 all_more : {A : Type 0} (f : A → Bool) (xs : List A) (y : A) → all f (xs ++ (y ∷ [])) ≡ all f xs && f y
 unfolding all

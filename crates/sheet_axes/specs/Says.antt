@@ -1,23 +1,30 @@
 -- What the answer for all axes of a job sheet says of the judge's reading. Assumes nothing.
-use Rattle.std.specs.Prelude.{◌≡◌, List, [], ◌∷◌, ℕ, ◌≤◌, ◌<◌, ℤ, length, get_or}
-use Rattle.rules.specs.declared.SheetPlace.{SheetPlace}
+use Rattle.std.specs.Prelude.{◌≡◌, List, [], ◌∷◌, ℕ, ◌≤◌, ◌<◌, ℤ, length, get_or, Option, None, Some, Result, Ok, Err}
+use Rattle.rules.specs.declared.SheetError.{SheetError}
+use Rattle.rules.specs.Questions.{number_of}
 use Rattle.rules.specs.Sheets.{Axis, Axes, within, below4}
 use Rattle.rules.specs.SheetReading as reading
 use Rattle.rules.specs.SheetFaults.{Refusal, refusal, first_count, axes_sizes}
 use Rattle.rules.specs.SheetAnswers.{axes_of, points_of, start_of, end_of, of_each, columns_of}
 use Rattle.sheet_record.specs.Held.{Held}
 use Rattle.sheet_axis.specs.Says.{Reads, Stops}
-use Rattle.sheet_sizes.specs.Sizes.{place_of}
 use Rattle.sheet_sizes.specs.declared.AxesSizes.{AxesSizes}
 use Rattle.sheet_axes.specs.declared.AxesRead.{AxesRead}
-use Rattle.sheet_axes.specs.declared.AxesRead.TheVariants as axesRead
 
 -- ---- the axes
 
--- the first of a list of refusals; the number 0 where there is none
-unfoldable pub first_place : List Refusal → SheetPlace
-first_place [] = place_of 0 0
-first_place (refusal k place ∷ rest) = place_of k place
+-- the first of some refusals
+abbrev pub first_of : List Refusal → Option Refusal
+first_of [] = None
+first_of (r ∷ rest) = Some r
+
+-- a fault in the terms of the definitions
+abbrev pub refusal_of : SheetError → Refusal
+refusal_of e = refusal (number_of e.cause) e.at
+
+abbrev pub said : Option SheetError → Option Refusal
+said None = None
+said (Some e) = Some (refusal_of e)
 
 -- what is known of the axes where none is refused for a size: the buffers hold their lists
 pub record Clean (axes : List Axis) (z : AxesSizes) (points start end : List ℤ) : Type 0 where
@@ -39,9 +46,9 @@ pub record AxesTo (text : List ℕ) (from n : ℕ) (z : AxesSizes) (points start
   pub many : n ≡ length (axes_of axes)
   pub some : 1 ≤ n
   pub few : n ≤ 8
-  pub first : place_of z.number z.at ≡ first_place (axes_sizes (first_count axes) from axes)
-  pub clean : z.number ≡ 0 → Clean (axes_of axes) z points start end
+  pub first : said z.fault ≡ first_of (axes_sizes (first_count axes) from axes)
+  pub clean : z.fault ≡ None → Clean (axes_of axes) z points start end
 
-unfoldable pub AxesSay : List ℕ → ℕ → AxesRead → List ℤ → List ℤ → List ℤ → Type 0
-AxesSay text from (axesRead.Is n z) points start end = AxesTo text from n z points start end
-AxesSay text from (axesRead.Stop k place) points start end = Stops (reading.read_axes within below4 8) text from k place
+abbrev pub AxesSay : List ℕ → ℕ → Result AxesRead SheetError → List ℤ → List ℤ → List ℤ → Type 0
+AxesSay text from (Ok r) points start end = AxesTo text from r.axes r.sizes points start end
+AxesSay text from (Err e) points start end = Stops (reading.read_axes within below4 8) text from e

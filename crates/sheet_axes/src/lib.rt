@@ -5,15 +5,20 @@
 ghost use Rattle.std.specs.Prelude.{◌≡◌, ◌≤◌, length};
 ghost use Rattle.sheet_axes.specs.Says.{AxesSay};
 
-use sheet_axis::AxisRead;
-use sheet_sizes::{AxesSizes, with_axis};
+use rules::SheetError;
+use sheet_axis::axis;
+use sheet_reading::invalid_sheet;
+use sheet_sizes::{AxesSizes, TOO_MANY_NUMBERS, TOO_MANY_POINTS, with_axis};
 
-// How many axes there are and what was counted on them (crates/sheet_sizes), or a refusal.
+// How many axes there are and what was counted on them (crates/sheet_sizes).
 #[derive(Clone, Copy)]
-pub enum AxesRead {
-    Is { axes: usize, sizes: AxesSizes },
-    Stop { number: u32, at: usize },
+pub struct AxesRead {
+    pub axes: usize,
+    pub sizes: AxesSizes,
 }
+
+// J20: "1 to 8 axes"
+const MOST_AXES: usize = 8;
 
 // J1, J20: the axes, 8 at the most, to the end of the text.
 pub fn read_axes(
@@ -22,45 +27,28 @@ pub fn read_axes(
     points: &mut [i64],
     start: &mut [i64],
     end: &mut [i64],
-) -> AxesRead
+) -> Result<AxesRead, SheetError>
     requires { (from ≤ length text.now) × (length points.old ≡ 2064) × (length start.old ≡ 32) × (length end.old ≡ 32) }
     ensures { AxesSay text.now from result points.new start.new end.new }
 {
     let mut place = from;
-    let mut sizes = AxesSizes {
-        points: 0,
-        start: 0,
-        end: 0,
-        number: 0,
-        at: 0,
-    };
-    let mut k = 0;
-    while k < 8 {
-        let a = k * 258;
-        let b = k * 4;
-        let read = sheet_axis::axis(
+    let mut sofar = None;
+    for k in 0..MOST_AXES {
+        let a = k * TOO_MANY_POINTS;
+        let b = k * TOO_MANY_NUMBERS;
+        let read = axis(
             text,
             place,
-            &mut points[a..a + 258],
-            &mut start[b..b + 4],
-            &mut end[b..b + 4],
-        );
-        match read {
-            AxisRead::Stop { number, at } => {
-                return AxesRead::Stop { number, at };
-            }
-            AxisRead::Is(z) => {
-                sizes = with_axis(k, sizes, z);
-                place = z.next;
-                k += 1;
-                if text.len() <= place {
-                    return AxesRead::Is { axes: k, sizes };
-                }
-            }
+            &mut points[a..a + TOO_MANY_POINTS],
+            &mut start[b..b + TOO_MANY_NUMBERS],
+            &mut end[b..b + TOO_MANY_NUMBERS],
+        )?;
+        let sizes = with_axis(sofar, read.value);
+        place = read.next;
+        if text.len() <= place {
+            return Ok(AxesRead { axes: k + 1, sizes });
         }
+        sofar = Some(sizes);
     }
-    AxesRead::Stop {
-        number: 600,
-        at: place,
-    }
+    Err(invalid_sheet(place))
 }

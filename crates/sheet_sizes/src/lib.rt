@@ -27,11 +27,11 @@ pub struct AxesSizes {
     pub fault: Option<SheetError>,
 }
 
-// J23: "the 258th point"
-const TOO_MANY_POINTS: usize = 258;
+// J23: "the 258th point". A buffer has room for so many of each axis, and is full where there are too many.
+pub const TOO_MANY_POINTS: usize = 258;
 
-// J23: a state's 4th number
-const TOO_MANY_NUMBERS: usize = 4;
+// J23: a state's 4th number. The same.
+pub const TOO_MANY_NUMBERS: usize = 4;
 
 // J23: 2 for a list of so many numbers.
 fn too_many(many: usize, list: Count) -> Option<SheetError>

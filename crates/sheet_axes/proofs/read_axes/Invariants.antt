@@ -1,0 +1,14 @@
+-- The buffers are as long as they were, and the axes so far are read. Assumes nothing.
+use Rattle.std.proofs.Common.{◌≡◌, length}
+use Rattle.sheet_axes.proofs.Axes.{Sofar, IsCounted, counted_in}
+use Rattle.sheet_axes.proofs.read_axes.Given as goal
+
+abbrev pub invariant-loop-k : goal.invariant-loop-k
+invariant-loop-k l =
+    record {
+      points_long : length l.points ≡ 2064;
+      start_long : length l.start ≡ 32;
+      end_long : length l.end ≡ 32;
+      counted : IsCounted l.sofar l.k;
+      sofar : Sofar l.text l.fn.from l.k l.place (counted_in l.sofar) l.points l.start l.end;
+    }
