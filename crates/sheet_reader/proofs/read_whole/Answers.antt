@@ -1,0 +1,30 @@
+-- The heading, and then the axes. Assumes nothing.
+use Rattle.std.proofs.lemmas.Result.{err_from_is_err_and}
+use Rattle.rules.specs.Sheets.{sheet}
+use Rattle.rules.specs.SheetReading.{read_sheet}
+use Rattle.sheet_axis.proofs.Joins.{pair_fails, pair_stops}
+use Rattle.sheet_reader.proofs.Whole.{stops_whole, sized_whole, read_whole}
+use Rattle.sheet_reader.proofs.read_whole.Goals as goal
+
+pub read_axes-requires : goal.read_axes-requires
+read_axes-requires c = (c.in_ok-first.ensures.reads.inside, c.requires.0, c.requires.1, c.requires.2)
+
+pub returns-in_err-first : goal.returns-in_err-first
+unfolding read_sheet
+returns-in_err-first c =
+    let p = err_from_is_err_and c.from_residual.result c.from_residual.ensures.1 in
+    let text = c.args.text.now in
+    rw (p.1, p.2) (stops_whole text _ (pair_fails sheet _ _ text 0 _ c.in_err-first.ensures))
+
+pub returns-in_err-rest : goal.returns-in_err-rest
+unfolding read_sheet
+returns-in_err-rest c =
+    let p = err_from_is_err_and c.from_residual-in_err-rest.result c.from_residual-in_err-rest.ensures.1 in
+    let text = c.args.text.now in
+    rw (p.1, p.2) (stops_whole text _ (pair_stops sheet _ _ text 0 _ _ c.in_ok-first.ensures.reads _ c.in_err-rest.ensures))
+
+pub returns-in-Some : goal.returns-in-Some
+returns-in-Some c = sized_whole c.args.text.now _ _ c.in_ok-first.ensures c.in_ok-rest.rest _ _ _ c.in_ok-rest.ensures _ c.in-Some.is
+
+pub returns-in-None : goal.returns-in-None
+returns-in-None c = read_whole c.args.text.now _ _ c.in_ok-first.ensures c.in_ok-rest.rest _ _ _ c.in_ok-rest.ensures c.in-None.is
