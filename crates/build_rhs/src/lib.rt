@@ -3,24 +3,37 @@
 #![tactic(auto)]
 
 ghost use Rattle.std.specs.Prelude.{◌≡◌, suc, ◌+◌, ◌*◌, ◌<◌, length};
-ghost use Rattle.rules.specs.Floats.{◌⊗◌, ◌⊕◌, ◌⊖◌, ◌!◌};
+ghost use Rattle.rules.specs.Floats.{◌⊗◌, ◌⊕◌, ◌⊖◌};
 ghost use Rattle.law_lists.specs.Lists.{listed};
 ghost use Rattle.rules.specs.Solve.{entry};
+ghost use Rattle.rules.specs.Build.{of_axis};
 
-// B11: waypoint p of an axis: "Waypoints are column-major, axes by points".
-pub fn waypoint(axes: usize, waypoints: &[f64], axis: usize, p: usize) -> f64
-    requires { p * axes + axis < length waypoints.now }
-    ensures { result ≡ waypoints.now ! (p * axes + axis) }
-{
-    waypoints[p * axes + axis]
+// B11: the waypoints of one axis, among those of all: "Waypoints are column-major, axes by points".
+#[derive(Clone, Copy)]
+pub struct AxisWaypoints<'a> {
+    pub axes: usize,
+    pub axis: usize,
+    pub waypoints: &'a [f64],
 }
 
-// R1: "dy = right minus left waypoint", of segment i.
-pub fn dy(axes: usize, waypoints: &[f64], axis: usize, i: usize) -> f64
-    requires { (axis < axes) × (suc i * axes + axis < length waypoints.now) }
-    ensures { result ≡ waypoints.now ! (suc i * axes + axis) ⊖ waypoints.now ! (i * axes + axis) }
-{
-    waypoint(axes, waypoints, axis, i + 1) - waypoint(axes, waypoints, axis, i)
+impl<'a> AxisWaypoints<'a> {
+    // B11: waypoint p.
+    pub fn waypoint(self, p: usize) -> f64
+        requires { p * self.axes + self.axis < length self.waypoints.now }
+        ensures { result ≡ of_axis self.entry.axes self.entry.waypoints.now self.entry.axis p }
+    {
+        self.waypoints[p * self.axes + self.axis]
+    }
+
+    // R1: "dy = right minus left waypoint", of segment i.
+    pub fn dy(self, i: usize) -> f64
+        requires { (self.axis < self.axes) × (suc i * self.axes + self.axis < length self.waypoints.now) }
+        ensures { result
+            ≡ of_axis self.entry.axes self.entry.waypoints.now self.entry.axis (suc i)
+            ⊖ of_axis self.entry.axes self.entry.waypoints.now self.entry.axis i }
+    {
+        self.waypoint(i + 1) - self.waypoint(i)
+    }
 }
 
 // R5: "R[·,0] × dy before + R[·,1] × dy after".
@@ -29,9 +42,7 @@ pub fn compute_rhs(m: usize, r: &[f64], dy_prev: f64, dy_next: f64, out: &mut [f
     ensures { out.new
         ≡ listed m (λ k. entry 2 r.now k 0 ⊗ dy_prev ⊕ entry 2 r.now k 1 ⊗ dy_next) }
 {
-    let mut k = 0;
-    while k < m {
+    for k in 0..m {
         out[k] = r[k * 2] * dy_prev + r[k * 2 + 1] * dy_next;
-        k += 1;
     }
 }
