@@ -1,100 +1,54 @@
-// What a build goes by, and the numbers of the first and the last node, which are made of the states that it is given.
+// What a build goes by (`Plan`), and the numbers of an axis's first and last node (`BoundaryNumbers`), which are made of the states
+// that it is given (src/states.rt).
 #![tactic(auto)]
 
-ghost use Rattle.std.specs.Prelude.{◌≡◌, ◌+◌, ◌≤◌, ◌<◌, length};
-ghost use Rattle.law_lists.specs.Lists.{listed};
-ghost use Rattle.rules.specs.Build.{divided, boundary_number};
-ghost use Rattle.build_plan.specs.Given.{HasNumbers, BothEnds};
+ghost use Rattle.std.specs.Prelude.{◌≡◌, ◌+◌, ◌*◌, ◌≤◌, length};
+ghost use Rattle.build_plan.specs.Given.{HasNumbers, first_of, last_of};
 
-use rules::BoundaryState;
+pub mod states;
 
-// What a build goes by, its lists aside: m, the inner nodes, the axes, inv_ds, and both states.
+use states::EndState;
+
+// What a build goes by, as its questions have found it: m, the inner nodes, the axes, inv_ds, the waypoints of all axes, and both states.
 #[derive(Clone, Copy)]
-pub struct Plan {
+pub struct Plan<'a> {
     pub m: usize,
     pub n: usize,
     pub axes: usize,
     pub inv_ds: f64,
-    pub start_state: BoundaryState,
-    pub end_state: BoundaryState,
+    pub waypoints: &'a [f64],
+    pub start: EndState<'a>,
+    pub end: EndState<'a>,
+    pub ghost some: { 1 ≤ m },
+    pub ghost few: { m ≤ 3 },
+    pub ghost few_nodes: { n ≤ 255 },
+    pub ghost few_axes: { axes ≤ 8 },
+    pub ghost waypoints_length: { length waypoints.now ≡ (n + 2) * axes },
+    pub ghost start_numbers: { HasNumbers axes m start },
+    pub ghost end_numbers: { HasNumbers axes m end },
 }
 
-// R20: x divided so many times, one division after another.
-fn divided(times: usize, x: f64, by: f64) -> f64
-    ensures { result ≡ divided times x by }
-{
-    let mut y = x;
-    let mut k = 0;
-    while k < times {
-        y = y / by;
-        k += 1;
+// F5: of an axis with n inner nodes, the m numbers of its first node and then those of its last.
+#[derive(Clone, Copy)]
+pub struct BoundaryNumbers<'a> {
+    pub m: usize,
+    pub n: usize,
+    pub numbers: &'a [f64],
+    pub ghost both: { m + m ≤ length numbers.now },
+}
+
+impl<'a> BoundaryNumbers<'a> {
+    // The first node's.
+    pub fn first(self) -> &'a [f64]
+        ensures { result.now ≡ first_of self.entry.m self.entry.numbers.now }
+    {
+        &self.numbers[..self.m]
     }
-    y
-}
 
-// R19, R20, B12: column r of an axis of a state: zero where the state is none, and in segment units where it is marked
-// per unit of s.
-fn boundary_number(
-    axes: usize,
-    inv_ds: f64,
-    state: BoundaryState,
-    numbers: &[f64],
-    axis: usize,
-    r: usize,
-) -> f64
-    requires { (axis < axes) × HasNumbers axes (r + 1) state numbers.now }
-    ensures { result ≡ boundary_number axes inv_ds state numbers.now axis r }
-{
-    match state {
-        BoundaryState::None => 0.0,
-        BoundaryState::Given {
-            rows: _,
-            columns: _,
-            per_unit_of_s,
-        } => {
-            let x = numbers[r * axes + axis];
-            if per_unit_of_s {
-                divided(r + 1, x, inv_ds)
-            } else {
-                x
-            }
-        }
+    // The last node's.
+    pub fn last(self) -> &'a [f64]
+        ensures { result.now ≡ last_of self.entry.m self.entry.numbers.now }
+    {
+        &self.numbers[self.m..self.m + self.m]
     }
-}
-
-// The m numbers of an axis of a state.
-fn boundary_numbers(
-    m: usize,
-    axes: usize,
-    inv_ds: f64,
-    state: BoundaryState,
-    numbers: &[f64],
-    axis: usize,
-    out: &mut [f64],
-)
-    requires { (axis < axes) × HasNumbers axes m state numbers.now × (length out.old ≡ m) }
-    ensures { out.new ≡ listed m (boundary_number axes inv_ds state numbers.now axis) }
-{
-    let mut r = 0;
-    while r < m {
-        out[r] = boundary_number(axes, inv_ds, state, numbers, axis, r);
-        r += 1;
-    }
-}
-
-// The 2m numbers of an axis's first node and of its last, one behind the other.
-pub fn both_ends(plan: Plan, start: &[f64], end: &[f64], axis: usize, ends: &mut [f64])
-    requires { (axis < plan.axes)
-        × HasNumbers plan.axes plan.m plan.start_state start.now
-        × HasNumbers plan.axes plan.m plan.end_state end.now
-        × (plan.m + plan.m ≤ length ends.old) }
-    ensures { BothEnds plan start.now end.now axis ends.new }
-{
-    let m = plan.m;
-    let axes = plan.axes;
-    let inv_ds = plan.inv_ds;
-    let start_state = plan.start_state;
-    let end_state = plan.end_state;
-    boundary_numbers(m, axes, inv_ds, start_state, start, axis, &mut ends[0..m]);
-    boundary_numbers(m, axes, inv_ds, end_state, end, axis, &mut ends[m..m + m]);
 }
