@@ -2,76 +2,67 @@
 // crates/rules/specs/Build.antt; where the code keeps the numbers of a node, in specs/.
 #![tactic(auto)]
 
-ghost use Rattle.std.specs.Prelude.{◌≡◌, ◌+◌, ◌*◌, ◌≤◌, ◌<◌, length};
+ghost use Rattle.std.specs.Prelude.{◌≡◌, ◌+◌, ◌*◌, ◌≤◌, length};
 ghost use Rattle.law_lists.specs.Lists.{listed};
-ghost use Rattle.rules.specs.Solve.{entry};
 ghost use Rattle.rules.specs.Build.{upper_coefficient, segment_coefficients};
-ghost use Rattle.build_products.specs.Columns.{HoldsH};
 ghost use Rattle.build_segments.specs.NodeNumbers.{node_part};
+
+use build_plan::BoundaryNumbers;
+use build_products::dot;
+use build_tables::BlockMatrices;
 
 // F5: the m numbers of node i: a part of the boundary numbers, which are the first node's and then the last's, or of
 // the solved list, without copying.
-pub fn node_numbers<'a>(
-    m: usize,
-    n: usize,
-    boundary: &'a [f64],
-    solved: &'a [f64],
-    i: usize,
-) -> &'a [f64]
-    requires { (m + m ≤ length boundary.now)
-        × (n * m ≤ length solved.now)
-        × (i ≤ n + 1) }
-    ensures { result.now ≡ node_part m n boundary.now solved.now i }
+pub fn node_numbers<'a>(ends: BoundaryNumbers<'a>, solved: &'a [f64], i: usize) -> &'a [f64]
+    requires { (ends.n * ends.m ≤ length solved.now) × (i ≤ ends.n + 1) }
+    ensures { result.now ≡ node_part ends.entry.m ends.entry.n ends.entry.numbers.now solved.now i }
 {
     if i == 0 {
-        return &boundary[0..m];
+        return ends.first();
     }
-    if n < i {
-        return &boundary[m..m + m];
+    if ends.n < i {
+        return ends.last();
     }
-    let at = (i - 1) * m;
-    &solved[at..at + m]
+    let at = (i - 1) * ends.m;
+    &solved[at..at + ends.m]
 }
 
 // R2: "Upper coefficient i = (H[i,0] × dy + P) + Q": the m + 1 of a segment.
-pub fn upper_coeffs(m: usize, h_coeff: &[f64], dy: f64, u0: &[f64], u1: &[f64], out: &mut [f64])
-    requires { (1 ≤ m)
-        × HoldsH m h_coeff.now
-        × (length u0.now ≡ m)
-        × (length u1.now ≡ m)
-        × (length out.old ≡ m + 1) }
-    ensures { out.new ≡ listed (m + 1) (upper_coefficient m dy u0.now u1.now) }
+pub fn upper_coeffs(tables: &BlockMatrices, dy: f64, u0: &[f64], u1: &[f64], out: &mut [f64])
+    requires { (1 ≤ tables.now.m)
+        × (length u0.now ≡ tables.now.m)
+        × (length u1.now ≡ tables.now.m)
+        × (length out.old ≡ tables.now.m + 1) }
+    ensures { out.new ≡ listed (tables.now.m + 1) (upper_coefficient tables.now.m dy u0.now u1.now) }
 {
+    let m = tables.m;
+    let h_coeff = tables.h_coeff;
     let width = 1 + 2 * m;
-    let mut i = 0;
-    while i < m + 1 {
+    for (i, x) in out.iter_mut().enumerate() {
         let at = i * width;
-        let dot_u0 = build_products::dot(m, h_coeff, at + 1, 1, u0);
-        let dot_u1 = build_products::dot(m, h_coeff, at + 1 + m, 1, u1);
-        out[i] = h_coeff[at] * dy + dot_u0 + dot_u1;
-        i += 1;
+        let dot_u0 = dot(h_coeff, at + 1, 1, u0);
+        let dot_u1 = dot(h_coeff, at + 1 + m, 1, u1);
+        *x = h_coeff[at] * dy + dot_u0 + dot_u1;
     }
 }
 
 // R4: "Segment: left waypoint, left node's m numbers, the m + 1 upper ones."
 pub fn write_segment_coeffs(
-    m: usize,
-    h_coeff: &[f64],
+    tables: &BlockMatrices,
     y: f64,
     dy: f64,
     u0: &[f64],
     u1: &[f64],
     out: &mut [f64],
 )
-    requires { (1 ≤ m)
-        × HoldsH m h_coeff.now
-        × (length u0.now ≡ m)
-        × (length u1.now ≡ m)
-        × (length out.old ≡ 2 * m + 2) }
-    ensures { out.new ≡ segment_coefficients m y dy u0.now u1.now }
+    requires { (1 ≤ tables.now.m)
+        × (length u0.now ≡ tables.now.m)
+        × (length u1.now ≡ tables.now.m)
+        × (length out.old ≡ 2 * tables.now.m + 2) }
+    ensures { out.new ≡ segment_coefficients tables.now.m y dy u0.now u1.now }
 {
-    let upper = m + 1;
+    let upper = tables.m + 1;
     out[0] = y;
-    build_products::copy(u0, &mut out[1..upper]);
-    upper_coeffs(m, h_coeff, dy, u0, u1, &mut out[upper..upper + m + 1]);
+    out[1..upper].copy_from_slice(u0);
+    upper_coeffs(tables, dy, u0, u1, &mut out[upper..]);
 }

@@ -1,2 +1,1 @@
-pub mod Node
 pub mod Sides

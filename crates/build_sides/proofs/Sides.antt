@@ -1,42 +1,56 @@
 -- A node's right side as the code makes it up is the definition's, and so is the solved one. Assumes nothing.
 use mathlib.Core.Path.{◌≡◌, refl, sym, ap}
-use mathlib.Core.Bool.{Bool, true, false, cond}
+use mathlib.Core.Bool.{Bool, cond}
 use mathlib.Core.List.{List}
 use Prim.Native.Nat.{ℕ, zero, suc, ◌+◌, ◌-◌, ◌<◌}
 use native.Mathlib.Numerals.{add-one}
 use native.Mathlib.Omega.{arith}
 use borrow.Author.Tests.{lt-ltb}
-use lib.Dec.{T, ltb, eqb, ltb→lt}
+use lib.Dec.{eqb}
+use lib.ListN.{length}
+use Rattle.law_lists.proofs.Lent.{part_length}
+use Rattle.build_plan.specs.declared.BoundaryNumbers.{BoundaryNumbers}
+use Rattle.build_plan.specs.Given.{first_of, last_of}
 use lib.Ieee.{Float}
 use Rattle.rules.specs.Floats.{◌⊗◌, ◌⊕◌}
 use Rattle.law_lists.specs.Lists.{listed}
 use Rattle.rules.specs.Tables.{A}
 use Rattle.rules.specs.Solve.{entry, times, minus, solve, node_factors}
 use Rattle.rules.specs.Build.{dy, right_side, bounded_side, solved_side}
-use Rattle.build_products.specs.Columns.{transposed, HoldsA, HoldsC, HoldsR}
+use Rattle.build_products.specs.Columns.{transposed}
 use Rattle.build_products.proofs.Transposed.{columns_are}
+use Rattle.build_tables.specs.declared.BlockMatrices.{BlockMatrices}
 use Rattle.build_sides.specs.Node.{full_side}
 
-module _ {m : ℕ} {r a c : List Float} (holds_r : HoldsR m r) (holds_a : HoldsA m a) (holds_c : HoldsC m c) where
-  abbrev side : Float → Float → List Float
-  side before after = listed m (λ k. entry 2 r k 0 ⊗ before ⊕ entry 2 r k 1 ⊗ after)
+module _ (t : BlockMatrices) where
+  -- the right side from the dy before and the dy after
+  abbrev pub right : Float → Float → List Float
+  right before after = listed t.m (λ k. entry 2 t.r.now k 0 ⊗ before ⊕ entry 2 t.r.now k 1 ⊗ after)
 
-  abbrev first : ℕ → Float → Float → List Float → List Float
-  first i before after start = cond (eqb i 0) (minus m (side before after) (times m (transposed m a) start)) (side before after)
+  -- less a matrix, kept by columns, times u
+  abbrev pub less : List Float → List Float → List Float → List Float
+  less a u v = minus t.m v (times t.m (transposed t.m a) u)
 
-  pub bounded_is : (n : ℕ) (w start end : List Float) (i : ℕ) (before after : Float) → dy w i ≡ before → dy w (suc i) ≡ after
-      → cond (eqb (i + 1) n) (minus m (first i before after start) (times m (transposed m c) end)) (first i before after start) ≡ bounded_side m n w start end i
+  -- at_first and at_last are the code's tests
+  pub bounded_is : {m : ℕ} → t.m ≡ m → (n : ℕ) (w start end : List Float) (i : ℕ) (before after : Float) (at_first at_last : Bool)
+      → eqb i 0 ≡ at_first → eqb (i + 1) n ≡ at_last → dy w i ≡ before → dy w (suc i) ≡ after
+      → (let first = cond at_first (less t.a.now start (right before after)) (right before after) in
+      cond at_last (less t.c.now end first) first ≡ bounded_side m n w start end i)
   unfolding bounded_side right_side
-  bounded_is n w start end i before after p q = rw (columns_are holds_a, columns_are holds_c, add-one, ← p, ← q, holds_r.is)
+  bounded_is of_m n w start end i before after at_first at_last x y p q =
+      rw (← of_m, ← x, ← y, columns_are t.holds_a, columns_are t.holds_c, add-one, ← p, ← q, t.holds_r.is)
 
--- what is subtracted past the first node alone, by its value there
-pub past_first : (m i : ℕ) (side a last previous : List Float) → (0 < i → last ≡ previous)
-    → cond (ltb 0 i) (minus m side (times m a last)) side ≡ cond (ltb 0 i) (minus m side (times m a previous)) side
-past_first m i side a last previous e = go (ltb 0 i) (ltb→lt 0 i)
-  where
-    go : (t : Bool) → (T t → 0 < i) → cond t (minus m side (times m a last)) side ≡ cond t (minus m side (times m a previous)) side
-    go true h = ap (λ (l : List Float). minus m side (times m a l)) (e (h tt))
-    go false h = refl
+  -- what is subtracted past the first node
+  pub past_first_is : {m : ℕ} → t.m ≡ m → (n : ℕ) (w start end previous : List Float) (i : ℕ) → 0 < i → previous ≡ solved_side m n w start end (i - 1)
+      → less t.a.now previous (bounded_side m n w start end i) ≡ full_side m n w start end i
+  past_first_is of_m n w start end previous i h e = rw (columns_are t.holds_a, of_m, lt-ltb 0 i h, e)
+
+-- how long the boundary numbers are
+pub first_long : (ends : BoundaryNumbers) → length (first_of ends.m ends.numbers.now) ≡ ends.m
+first_long ends = part_length 0 ends.m ends.numbers.now (omega arith)
+
+pub last_long : (ends : BoundaryNumbers) → length (last_of ends.m ends.numbers.now) ≡ ends.m
+last_long ends = part_length ends.m ends.m ends.numbers.now (omega arith)
 
 -- a node's solved right side is solved from all of its right side
 pub solved_is : (m n : ℕ) (w start end : List Float) (i : ℕ) → solved_side m n w start end i ≡ solve m (node_factors m i) (full_side m n w start end i)
