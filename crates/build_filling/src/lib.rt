@@ -2,49 +2,50 @@
 // (crates/build_questions).
 #![tactic(auto)]
 
-ghost use Rattle.std.specs.Prelude.{◌≡◌, ◌+◌, ◌*◌, ◌≤◌, length};
-ghost use Rattle.build_filling.specs.AllAxes.{Shared, all_axes};
+ghost use Rattle.std.specs.Prelude.{◌≡◌, ◌+◌, ◌≤◌, ◌<◌, length};
+ghost use Rattle.build_filling.specs.AllAxes.{BothEnds, FillLent, all_axes};
 
-use build_plan::Plan;
-use build_tables::BlockMatrices;
+use build_plan::{BoundaryNumbers, Plan};
+use build_rhs::AxisWaypoints;
+use build_sweeps::NodeMatrices;
+use build_thomas::thomas_row;
+
+// B12: the m numbers of an axis's first node, and then those of its last: of the start state, and of the end state.
+fn both_ends(plan: &Plan, axis: usize, numbers: &mut [f64])
+    requires { (axis < plan.now.axes) × (plan.now.m + plan.now.m ≤ length numbers.old) }
+    ensures { BothEnds plan.now axis numbers.new }
+{
+    let m = plan.m;
+    let axes = plan.axes;
+    let inv_ds = plan.inv_ds;
+    plan.start.axis_numbers(axes, inv_ds, axis, &mut numbers[..m]);
+    plan.end.axis_numbers(axes, inv_ds, axis, &mut numbers[m..m + m]);
+}
 
 // B14: all axes, one after the other, in the place of what the buffer held.
-pub fn fill_axes(
-    plan: Plan,
-    tables: BlockMatrices,
-    entries: &[f64],
-    rows: &[usize],
-    solved_c: &[f64],
-    waypoints: &[f64],
-    start: &[f64],
-    end: &[f64],
-    solved: &mut [f64],
-    coeffs: &mut [f64],
-)
-    requires { Shared plan tables entries.now rows.now solved_c.now waypoints.now start.now end.now
-        × (plan.n * plan.m ≤ length solved.old)
-        × (length coeffs.old ≡ plan.axes * ((plan.n + 1) * (2 * plan.m + 2))) }
-    ensures { coeffs.new ≡ all_axes plan waypoints.now start.now end.now }
+pub fn fill_axes(plan: &Plan, nodes: &NodeMatrices, solved: &mut [f64], coeffs: &mut [f64])
+    requires { FillLent plan.now nodes.now solved.old coeffs.old }
+    ensures { coeffs.new ≡ all_axes plan.now }
 {
-    let stride = (plan.n + 1) * (2 * plan.m + 2);
+    let m = plan.m;
+    let n = plan.n;
     let axes = plan.axes;
-    let mut axis = 0;
-    while axis < axes {
+    let waypoints = plan.waypoints;
+    let stride = (n + 1) * (2 * m + 2);
+    for axis in 0..axes {
         let at = axis * stride;
-        let mut ends = [0.0; 6];
-        build_plan::both_ends(plan, start, end, axis, &mut ends);
-        build_thomas::thomas_row(
-            plan,
-            tables,
-            entries,
-            rows,
-            solved_c,
-            waypoints,
+        let mut numbers = [0.0; 6];
+        both_ends(plan, axis, &mut numbers);
+        let ends = BoundaryNumbers {
+            m,
+            n,
+            numbers: &numbers,
+        };
+        let points = AxisWaypoints {
+            axes,
             axis,
-            &ends,
-            solved,
-            &mut coeffs[at..at + stride],
-        );
-        axis += 1;
+            waypoints,
+        };
+        thomas_row(nodes, points, ends, solved, &mut coeffs[at..at + stride]);
     }
 }

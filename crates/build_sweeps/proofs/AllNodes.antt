@@ -1,36 +1,56 @@
 -- The factored matrices of all inner nodes, as factoring leaves those that differ: the others repeat them. Assumes nothing.
 use mathlib.Core.Path.{◌≡◌, sym, ap, ◌∙◌}
 use mathlib.Core.List.{List, ◌++◌}
-use Prim.Native.Nat.{ℕ, ◌+◌, ◌*◌, ◌<◌, ◌≤◌}
+use Prim.Native.Nat.{ℕ, ◌+◌, ◌-◌, ◌*◌, ◌<◌, ◌≤◌}
 use native.Mathlib.Nat.{le_trans}
-use native.Mathlib.Omega.{arith}
-use lib.ListN.{length, drop}
+use lib.ListN.{length, take, drop}
 use lib.Ieee.{Float}
 use Rattle.rules.specs.Tables.{B, C}
-use Rattle.rules.specs.Solve.{Factored, solve_matrix, node_factors, solved_c_of}
+use Rattle.rules.specs.Solve.{Factored, solve_matrix, node_matrix, node_factors, solved_c_of}
 use Rattle.law_lists.proofs.Lists.{part_inside}
 use Rattle.theorem_pivots.specs.Repeating.{settled, distinct, NodesRepeat}
 use Rattle.theorem_pivots.proofs.Pivots.{nodes_repeat}
 use Rattle.theorem_pivots.proofs.Settled.{settled_below}
-use Rattle.build_products.specs.Columns.{transposed}
+use Rattle.build_products.specs.Columns.{transposed, Below}
+use Rattle.build_factoring.proofs.Factors.{length_rows, rows_below}
+use Rattle.law_lists.proofs.Lent.{part_size, part_length}
 use Rattle.build_nodes.specs.NodeLists.{Room, node_entries, node_rows, node_solved}
 use Rattle.law_lists.proofs.PartedList.{Parted, kept, part_at}
 use Rattle.build_nodes.proofs.Nodes.{length_entries, length-node_rows, length_solved}
 use Rattle.build_sweeps.specs.Axis.{NodeFactors, NodeSolved}
-use Rattle.build_sides.specs.Node.{NodeAt}
 
--- one of n nodes
-pub node_at : {m n : ℕ} {entries : List Float} {rows : List ℕ} → NodeFactors m n entries rows → (i : ℕ) → i < n → NodeAt m i entries rows
-node_at {m} {n} h i l = record {
-  entries_is = h.entries_at i l;
-  entries_inside = le_trans (part_inside (m * m) (settled_below m n i l)) h.entries_length;
-  rows_is = h.rows_at i l;
-  rows_inside = le_trans (part_inside m (settled_below m n i l)) h.rows_length;
-}
+-- a node among n: k is the place that the code finds for it
+module _ {m n i k : ℕ} (l : i < n) (e : k ≡ settled m i) where
+  module _ {entries : List Float} {rows : List ℕ} (h : NodeFactors m n entries rows) where
+    pub entries_inside : k * (m * m) + m * m ≤ length entries
+    entries_inside = rw e (le_trans (part_inside (m * m) (settled_below m n i l)) h.entries_length)
 
--- solved C of the last of them, at the place k that the code finds
-pub solved_inside : {m k : ℕ} (i : ℕ) {solved : List Float} → NodeSolved m (i + 1) solved → k ≡ settled m i → k * (m * m) + m * m ≤ length solved
-solved_inside {m} i h e = rw e (le_trans (part_inside (m * m) (settled_below m (i + 1) i (omega arith))) h.solved_length)
+    pub rows_inside : k * m + m ≤ length rows
+    rows_inside = rw e (le_trans (part_inside m (settled_below m n i l)) h.rows_length)
+
+    pub entries_part : take (k * (m * m) + m * m - k * (m * m)) (drop (k * (m * m)) entries) ≡ (node_factors m i).entries
+    entries_part = part_size (k * (m * m)) (m * m) entries ∙ rw e (h.entries_at i l)
+
+    pub rows_part : take (k * m + m - k * m) (drop (k * m) rows) ≡ (node_factors m i).rows
+    rows_part = part_size (k * m) m rows ∙ rw e (h.rows_at i l)
+
+  -- solved C
+  module _ {solved : List Float} (h : NodeSolved m n solved) where
+    pub solved_inside : k * (m * m) + m * m ≤ length solved
+    solved_inside = rw e (le_trans (part_inside (m * m) (settled_below m n i l)) h.solved_length)
+
+    pub solved_part : take (k * (m * m) + m * m - k * (m * m)) (drop (k * (m * m)) solved) ≡ transposed m (solved_c_of m i)
+    solved_part = part_size (k * (m * m)) (m * m) solved ∙ rw e (h.solved_at i l)
+
+-- how long a part is that is lent
+pub lent_length : {A : Type 0} (at k : ℕ) (xs : List A) → at + k ≤ length xs → length (take (at + k - at) (drop at xs)) ≡ k
+lent_length at k xs h = rw part_size (part_length at k xs h)
+
+-- a node's factored matrix, as solving wants it
+module _ (m i : ℕ) where
+  pub node_below : Below m (node_factors m i).rows
+  unfolding node_factors
+  node_below j l = rows_below m (node_matrix m i) j (rw (length_rows m (node_matrix m i)) at l)
 
 -- ---- all nodes, as factoring leaves them: behind the lists' first cells the lists are as they were
 

@@ -2,7 +2,7 @@
 -- its start, a step and its end, with what they lean on: a part of a list of parts can be replaced. Assumes nothing.
 use mathlib.Core.Path.{◌≡◌, sym, ap, ap₂, ◌∙◌}
 use mathlib.Core.Bool.{cond}
-use mathlib.Core.List.{List, ◌++◌, append_assoc}
+use mathlib.Core.List.{List, [], ◌++◌, append_assoc, append-nil}
 use mathlib.Core.Logic.{◌⊎◌, inl, inr}
 use Prim.Native.Nat.{ℕ, zero, suc, ◌+◌, ◌-◌, ◌*◌, ◌<◌, ◌≤◌}
 use native.Mathlib.Nat.{not-suc-le-zero}
@@ -10,8 +10,9 @@ use native.Mathlib.Numerals.{add-one}
 use native.Mathlib.Omega.{arith}
 use borrow.Author.Tests.{lt-ltb, le-ltb}
 use lib.Dec.{ltb}
-use lib.ListN.{length, drop}
-use lib.Seq.{take_at, drop_at}
+use lib.ListN.{length, take, drop, length-drop, drop_of_length-le}
+use lib.Seq.{take_at, drop_at, drop-drop}
+use Rattle.std.proofs.lemmas.List.{drop-take, take-take}
 use lib.Ieee.{Float}
 use Rattle.law_lists.specs.Lists.{joined}
 use Rattle.rules.specs.Solve.{times, minus, solve_matrix, solved_c_of}
@@ -20,7 +21,8 @@ use Rattle.law_lists.proofs.Lists.{below_suc, length-joined}
 use Rattle.law_lists.proofs.Filling.{lt_or_le, joined_ext, parts_at}
 use Rattle.rules.proofs.Matrices.{length-matrix}
 use Rattle.rules.proofs.Build.{length-solved_side, length-inner}
-use Rattle.build_sides.specs.Node.{part, put}
+use Rattle.build_sides.specs.Node.{part}
+use Rattle.build_sweeps.specs.Axis.{put}
 
 -- the i-th of n parts that are k long each is replaced: g is f elsewhere
 pub parts_replace : (n k i : ℕ) (f g : ℕ → List Float) (zs rest : List Float) → ((j : ℕ) → j < n → length (f j) ≡ k)
@@ -46,6 +48,22 @@ parts_replace (suc n) k i f g zs rest e h z s =
         )
         (ap₂ (λ (xs ys : List Float). xs ++ (ys ++ rest)) (joined_ext n f g (λ j l. s j (omega arith) (inl (omega arith)))) (z ∙ ap g q))
     go (inr l) r = r l z (λ j b. s j (omega arith)) ∙ ap (λ (xs : List Float). joined n g ++ (xs ++ rest)) (s n (omega arith) (inr l))
+
+-- a list that is lent in two halves, of which the first ends with the m numbers from `at` on: these come back as ys
+module _ (at m : ℕ) (xs : List Float) {own : List Float} (e : own ≡ take (at + m) xs) (long : length own ≡ at + m) where
+  pub own_part : take (length own - at) (drop at own) ≡ take m (drop at xs)
+  own_part =
+      let size : at + m - at ≡ m = omega arith in
+      rw (long, size, e, drop-take) (take-take m m (drop at xs) (omega arith))
+
+  pub own_back : (ys : List Float) → (take at own ++ (ys ++ drop (length own - at) (drop at own))) ++ drop (at + m) xs
+      ≡ take at xs ++ (ys ++ drop (at + m - at) (drop at xs))
+  own_back ys =
+      let size : at + m - at ≡ m = omega arith in
+      let none : drop m (drop at own) ≡ [] = drop_of_length-le (drop at own) (simp (length-drop, long) (omega arith)) in
+      let start : take at own ≡ take at xs = ap (take at) e ∙ take-take at (at + m) xs (omega arith) in
+      let rest : drop m (drop at xs) ≡ drop (at + m) xs = drop-drop m at xs in
+      rw (long, size, none, start, append-nil, rest, append_assoc)
 
 pub length-solved_c : (m i : ℕ) → length (solved_c_of m i) ≡ m * m
 unfolding solved_c_of solve_matrix

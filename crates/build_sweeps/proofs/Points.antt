@@ -9,17 +9,20 @@ use Rattle.rules.specs.Floats.{◌⊖◌, ◌!◌, +0}
 use Rattle.rules.specs.Build.{of_axis, dy}
 use Rattle.law_lists.proofs.Filling.{listed_at}
 use Rattle.law_lists.proofs.Places.{cell_inside}
-use Rattle.build_plan.specs.declared.Plan.{Plan}
-use Rattle.build_sweeps.specs.Axis.{AxisOf, waypoints_of}
+use Rattle.build_plan.specs.declared.BoundaryNumbers.{BoundaryNumbers}
+use Rattle.build_rhs.specs.declared.AxisWaypoints.{AxisWaypoints}
+use Rattle.build_sweeps.specs.Axis.{AxisLent, points_of}
 
-module _ (p : Plan) (waypoints : List Float) (axis : ℕ) where
-  pub points_at : (k : ℕ) → k < p.n + 2 → waypoints_of p waypoints axis ! k ≡ of_axis p.axes waypoints axis k
-  points_at k h = listed_at +0 (p.n + 2) _ k h
+module _ (n : ℕ) (points : AxisWaypoints) where
+  pub points_at : (k : ℕ) → k < n + 2 → points_of n points ! k ≡ of_axis points.axes points.waypoints.now points.axis k
+  points_at k h = listed_at +0 (n + 2) _ k h
 
-  pub points_dy : (i : ℕ) → suc i < p.n + 2
-      → dy (waypoints_of p waypoints axis) i ≡ of_axis p.axes waypoints axis (suc i) ⊖ of_axis p.axes waypoints axis i
+  pub points_dy : (i : ℕ) → suc i < n + 2
+      → dy (points_of n points) i
+      ≡ of_axis points.axes points.waypoints.now points.axis (suc i) ⊖ of_axis points.axes points.waypoints.now points.axis i
   unfolding dy
   points_dy i h = ap₂ ◌⊖◌ (points_at (suc i) h) (points_at i (omega arith))
 
-pub point_inside : {p : Plan} {axis : ℕ} {waypoints : List Float} → AxisOf p axis waypoints → (k : ℕ) → k < p.n + 2 → k * p.axes + axis < length waypoints
-point_inside {p} h k l = rw h.waypoints_length (cell_inside p.axes l h.axis_below)
+pub point_inside : {m n : ℕ} {points : AxisWaypoints} {ends : BoundaryNumbers} {solved : List Float} → AxisLent m n points ends solved
+    → (k : ℕ) → k < n + 2 → k * points.axes + points.axis < length points.waypoints.now
+point_inside {m} {n} {points} h k l = rw h.waypoints_length (cell_inside points.axes l h.axis_below)

@@ -3,90 +3,125 @@
 // what they are lent, in specs/.
 #![tactic(auto)]
 
-ghost use Rattle.std.specs.Prelude.{◌≡◌, List, ◌++◌, suc, ◌+◌, ◌-◌, ◌*◌, ◌≤◌, length, take, drop, Float};
+ghost use Rattle.std.specs.Prelude.{◌≡◌, List, ◌++◌, suc, ◌+◌, ◌-◌, ◌*◌, ◌≤◌, ◌<◌, length, take, drop, Float};
 ghost use Rattle.law_lists.specs.Lists.{joined};
-ghost use Rattle.rules.specs.Solve.{times, minus, solved_c_of};
+ghost use Rattle.rules.specs.Solve.{times, minus, solve, node_factors, solved_c_of};
 ghost use Rattle.rules.specs.Build.{solved_side, inner_numbers};
 ghost use Rattle.build_plan.specs.Given.{first_of, last_of};
-ghost use Rattle.build_sides.specs.Node.{part, put};
-ghost use Rattle.build_sweeps.specs.Axis.{waypoints_of, NodeSolved, SweepLent};
+ghost use Rattle.build_sides.specs.Node.{part};
+ghost use Rattle.build_sweeps.specs.Axis.{NodeFactors, NodeSolved, AxisLent, points_of, put};
 
-use build_plan::Plan;
-use build_rhs::dy;
+use build_forward::Factored;
+use build_plan::BoundaryNumbers;
+use build_products::subtract_product;
+use build_rhs::AxisWaypoints;
 use build_settled::settled;
-use build_sides::{full_side, solve_node};
+use build_sides::{InnerNode, full_side};
+use build_tables::BlockMatrices;
 
-// The solved right sides of all n inner nodes. A dy is worked out once: the one after a node is the one before the next.
-pub fn forward_sweep(
-    plan: Plan,
-    r: &[f64],
-    a: &[f64],
-    c: &[f64],
-    entries: &[f64],
-    rows: &[usize],
-    waypoints: &[f64],
-    axis: usize,
-    boundary: &[f64],
-    side: &mut [f64],
-    solved: &mut [f64],
-)
-    requires { SweepLent plan r.now a.now c.now entries.now rows.now waypoints.now axis
-        boundary.now side.old solved.old }
-    ensures { let w = waypoints_of plan waypoints.now axis in
-        let first = first_of plan.m boundary.now in
-        let last = last_of plan.m boundary.now in
-        solved.new
-        ≡ joined plan.n (solved_side plan.m plan.n w first last) ++ drop (plan.n * plan.m) solved.old }
-{
-    let m = plan.m;
-    let n = plan.n;
-    let axes = plan.axes;
-    let mut dy_prev = dy(axes, waypoints, axis, 0);
-    let mut i = 0;
-    while i < n {
-        let dy_next = dy(axes, waypoints, axis, i + 1);
-        full_side(plan, r, a, c, dy_prev, dy_next, boundary, i, solved, side);
-        solve_node(m, i, entries, rows, side, solved);
-        dy_prev = dy_next;
-        i += 1;
+// What all axes of a build with n inner nodes share: the tables, and of the nodes' matrices that differ, one after the other, the
+// factored matrices, their rows, and solved C by columns.
+#[derive(Clone, Copy)]
+pub struct NodeMatrices<'a> {
+    pub tables: &'a BlockMatrices,
+    pub n: usize,
+    pub entries: &'a [f64],
+    pub rows: &'a [usize],
+    pub solved_c: &'a [f64],
+    pub ghost some: { 1 ≤ tables.now.m },
+    pub ghost few: { tables.now.m ≤ 3 },
+    pub ghost few_nodes: { n ≤ 255 },
+    pub ghost factors: { NodeFactors tables.now.m n entries.now rows.now },
+    pub ghost solved: { NodeSolved tables.now.m n solved_c.now },
+}
+
+impl NodeMatrices<'_> {
+    // R10, Z3: a right side solved with the factored matrix of inner node i, into its place.
+    fn solve_node(&self, i: usize, side: &[f64], solved: &mut [f64])
+        requires { (i < self.now.n)
+            × (length side.now ≡ self.now.tables.now.m)
+            × (i * self.now.tables.now.m + self.now.tables.now.m ≤ length solved.old) }
+        ensures { let m = self.now.tables.now.m in
+            solved.new ≡ put m i (solve m (node_factors m i) side.now) solved.old }
+    {
+        let m = self.tables.m;
+        let k = settled(m, i);
+        let at = k * (m * m);
+        let row = k * m;
+        let out = i * m;
+        let matrix = Factored {
+            m,
+            entries: &self.entries[at..at + m * m],
+            rows: &self.rows[row..row + m],
+        };
+        build_solving::solve(&matrix, side, &mut solved[out..out + m]);
     }
-}
 
-// R11, Z3: "Back: u = solved right side − solved C · next u", at inner node i. The next node's numbers are copied, since
-// two parts of one list are not lent at a time.
-fn back_step(m: usize, solved_c: &[f64], i: usize, next: &mut [f64], solved: &mut [f64])
-    requires { (1 ≤ m)
-        × NodeSolved m (i + 1) solved_c.now
-        × (length next.old ≡ m)
-        × ((i + 2) * m ≤ length solved.old) }
-    ensures { let before = solved.old in
-        solved.new ≡ put m i (minus m (part m before i) (times m (solved_c_of m i) (part m before (i + 1)))) before }
-{
-    let at = settled(m, i) * (m * m);
-    let row = i * m;
-    let after = row + m;
-    build_products::copy(&solved[after..after + m], next);
-    build_products::subtract_product(
-        m,
-        &solved_c[at..at + m * m],
-        next,
-        &mut solved[row..row + m],
-    );
-}
+    // The solved right sides of all inner nodes. A dy is worked out once: the one after a node is the one before the next.
+    fn forward_sweep(&self, points: AxisWaypoints, ends: BoundaryNumbers, solved: &mut [f64])
+        requires { AxisLent self.now.tables.now.m self.now.n points ends solved.old }
+        ensures { let m = self.now.tables.now.m in
+            let w = points_of self.now.n points.entry in
+            let first = first_of m ends.entry.numbers.now in
+            let last = last_of m ends.entry.numbers.now in
+            solved.new ≡ joined self.now.n (solved_side m self.now.n w first last) ++ drop (self.now.n * m) solved.old }
+    {
+        let mut room = [0.0; 3];
+        let side = &mut room[..self.tables.m];
+        let mut dy_prev = points.dy(0);
+        for i in 0..self.n {
+            let dy_next = points.dy(i + 1);
+            let node = InnerNode {
+                i,
+                dy_prev,
+                dy_next,
+            };
+            full_side(self.tables, ends, node, solved, side);
+            self.solve_node(i, side, solved);
+            dy_prev = dy_next;
+        }
+    }
 
-// The numbers of all n inner nodes, from the last but one back to the first, in the place of the solved right sides.
-pub fn back_sweep(m: usize, n: usize, solved_c: &[f64], next: &mut [f64], solved: &mut [f64])
-    requires { (1 ≤ m)
-        × NodeSolved m n solved_c.now
-        × (length next.old ≡ m)
-        × (n * m ≤ length solved.old) }
-    ensures { (w start end : List Float)
-        → take (n * m) solved.old ≡ joined n (solved_side m n w start end)
-        → solved.new ≡ joined n (λ j. inner_numbers m n w start end j (n - suc j)) ++ drop (n * m) solved.old }
-{
-    let mut i = n;
-    while 1 < i {
-        i -= 1;
-        back_step(m, solved_c, i - 1, next, solved);
+    // R11, Z3: "Back: u = solved right side − solved C · next u", at inner node i.
+    fn back_step(&self, i: usize, solved: &mut [f64])
+        requires { (i < self.now.n) × ((i + 2) * self.now.tables.now.m ≤ length solved.old) }
+        ensures { let m = self.now.tables.now.m in
+            let before = solved.old in
+            solved.new ≡ put m i (minus m (part m before i) (times m (solved_c_of m i) (part m before (i + 1)))) before }
+    {
+        let m = self.tables.m;
+        let at = settled(m, i) * (m * m);
+        let row = i * m;
+        let solved_c = &self.solved_c[at..at + m * m];
+        let (own, next) = solved.split_at_mut(row + m);
+        subtract_product(m, solved_c, &next[..m], &mut own[row..]);
+    }
+
+    // The numbers of all inner nodes, from the last but one back to the first, in the place of the solved right sides.
+    fn back_sweep(&self, solved: &mut [f64])
+        requires { self.now.n * self.now.tables.now.m ≤ length solved.old }
+        ensures { let m = self.now.tables.now.m in
+            let n = self.now.n in
+            (w start end : List Float)
+            → take (n * m) solved.old ≡ joined n (solved_side m n w start end)
+            → solved.new ≡ joined n (λ j. inner_numbers m n w start end j (n - suc j)) ++ drop (n * m) solved.old }
+    {
+        for i in (1..self.n).rev() {
+            self.back_step(i - 1, solved);
+        }
+    }
+
+    // R8, R10, R11: the numbers of all inner nodes of an axis.
+    pub fn inner_numbers(&self, points: AxisWaypoints, ends: BoundaryNumbers, solved: &mut [f64])
+        requires { AxisLent self.now.tables.now.m self.now.n points ends solved.old }
+        ensures { let m = self.now.tables.now.m in
+            let n = self.now.n in
+            let w = points_of n points.entry in
+            let first = first_of m ends.entry.numbers.now in
+            let last = last_of m ends.entry.numbers.now in
+            solved.new ≡ joined n (λ j. inner_numbers m n w first last j (n - suc j)) ++ drop (n * m) solved.old }
+    {
+        self.forward_sweep(points, ends, solved);
+        self.back_sweep(solved);
     }
 }

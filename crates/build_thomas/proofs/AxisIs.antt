@@ -14,19 +14,12 @@ use Rattle.rules.specs.Build.{dy, segment_coefficients, inner_numbers, node_numb
 use Rattle.law_lists.proofs.Lists.{length-joined}
 use Rattle.law_lists.proofs.Filling.{lt_or_le, joined_ext, parts_at}
 use Rattle.rules.proofs.Build.{length-inner}
-use Rattle.build_plan.specs.declared.Plan.{Plan}
 use Rattle.build_plan.specs.Given.{first_of, last_of}
 use Rattle.build_segments.specs.NodeNumbers.{node_part}
 use Rattle.build_thomas.specs.Row.{segment_of}
 
 -- rest is what the solved list has past the inner nodes' numbers
-module _ (p : Plan) (boundary solved w rest : List Float) where
-  abbrev m : ℕ
-  m = p.m
-
-  abbrev n : ℕ
-  n = p.n
-
+module _ (m n : ℕ) (boundary solved w rest : List Float) where
   abbrev first : List Float
   first = first_of m boundary
 
