@@ -18,8 +18,10 @@ fn both_ends(plan: &Plan, axis: usize, numbers: &mut [f64])
     let m = plan.m;
     let axes = plan.axes;
     let inv_ds = plan.inv_ds;
-    plan.start.axis_numbers(axes, inv_ds, axis, &mut numbers[..m]);
-    plan.end.axis_numbers(axes, inv_ds, axis, &mut numbers[m..m + m]);
+    let start = plan.start;
+    let end = plan.end;
+    start.axis_numbers(axes, inv_ds, axis, &mut numbers[..m]);
+    end.axis_numbers(axes, inv_ds, axis, &mut numbers[m..m + m]);
 }
 
 // B14: all axes, one after the other, in the place of what the buffer held.

@@ -1,69 +1,52 @@
 // The table of a build: the lists per node, which factoring and filling (crates/build_axes) are lent.
 #![tactic(auto)]
 
-ghost use Rattle.std.specs.Prelude.{◌≡◌, ◌+◌, ◌*◌, length};
-ghost use Rattle.build_plan.specs.Given.{Planned};
+ghost use Rattle.std.specs.Prelude.{◌≡◌, ◌+◌, ◌*◌, ◌≤◌, length};
+ghost use Rattle.theorem_pivots.specs.Repeating.{distinct};
 ghost use Rattle.build_filling.specs.AllAxes.{all_axes};
 
 use build_plan::Plan;
 
-// F10: "Lists per node: fixed arrays for 255 nodes", whose matrices the first 91 have all. A curve with fewer nodes has
-// shorter ones, since an array is set to zero before it is used; two points have no inner node.
-pub fn fill(plan: Plan, waypoints: &[f64], start: &[f64], end: &[f64], coeffs: &mut [f64])
-    requires { Planned plan waypoints.now start.now end.now
-        × (length coeffs.old ≡ plan.axes * ((plan.n + 1) * (2 * plan.m + 2))) }
-    ensures { coeffs.new ≡ all_axes plan waypoints.now start.now end.now }
+// Lists for so many entries of the matrices that differ, so many of their rows, and so many numbers of the inner nodes.
+#[inline(never)]
+fn fill_with<const ENTRIES: usize, const ROWS: usize, const NUMBERS: usize>(
+    plan: &Plan,
+    coeffs: &mut [f64],
+)
+    requires { (length coeffs.old ≡ plan.now.axes * ((plan.now.n + 1) * (2 * plan.now.m + 2)))
+        × (distinct plan.now.m plan.now.n * (plan.now.m * plan.now.m) ≤ ENTRIES)
+        × (distinct plan.now.m plan.now.n * plan.now.m ≤ ROWS)
+        × (plan.now.n * plan.now.m ≤ NUMBERS)
+        × (ENTRIES ≤ 819)
+        × (ROWS ≤ 273)
+        × (NUMBERS ≤ 765) }
+    ensures { coeffs.new ≡ all_axes plan.now }
 {
-    let n = plan.n;
-    if n == 0 {
-        let mut entries = [0.0; 1];
-        let mut rows = [0; 1];
-        let mut solved_c = [0.0; 1];
-        let mut solved = [0.0; 1];
-        build_axes::solve_general_thomas(
-            plan,
-            waypoints,
-            start,
-            end,
-            &mut entries,
-            &mut rows,
-            &mut solved_c,
-            &mut solved,
-            coeffs,
-        );
-        return;
-    }
-    if n <= 30 {
-        let mut entries = [0.0; 270];
-        let mut rows = [0; 90];
-        let mut solved_c = [0.0; 270];
-        let mut solved = [0.0; 90];
-        build_axes::solve_general_thomas(
-            plan,
-            waypoints,
-            start,
-            end,
-            &mut entries,
-            &mut rows,
-            &mut solved_c,
-            &mut solved,
-            coeffs,
-        );
-        return;
-    }
-    let mut entries = [0.0; 819];
-    let mut rows = [0; 273];
-    let mut solved_c = [0.0; 819];
-    let mut solved = [0.0; 765];
+    let mut entries = [0.0; ENTRIES];
+    let mut rows = [0; ROWS];
+    let mut solved_c = [0.0; ENTRIES];
+    let mut solved = [0.0; NUMBERS];
     build_axes::solve_general_thomas(
         plan,
-        waypoints,
-        start,
-        end,
         &mut entries,
         &mut rows,
         &mut solved_c,
         &mut solved,
         coeffs,
     );
+}
+
+// F10: "Lists per node: fixed arrays for 255 nodes", whose matrices the first 91 have all. A curve with fewer nodes has
+// shorter ones, since an array is set to zero before it is used; two points have no inner node.
+pub fn fill(plan: &Plan, coeffs: &mut [f64])
+    requires { length coeffs.old ≡ plan.now.axes * ((plan.now.n + 1) * (2 * plan.now.m + 2)) }
+    ensures { coeffs.new ≡ all_axes plan.now }
+{
+    if plan.n == 0 {
+        fill_with::<1, 1, 1>(plan, coeffs);
+    } else if plan.n <= 30 {
+        fill_with::<270, 90, 90>(plan, coeffs);
+    } else {
+        fill_with::<819, 273, 765>(plan, coeffs);
+    }
 }

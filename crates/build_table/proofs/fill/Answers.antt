@@ -1,45 +1,29 @@
--- `build_table::fill` meets its contract: each of its lists has room for as many nodes as its test lets through. Assumes nothing.
-use Prim.Native.Nat.{ℕ, ◌*◌, ◌≤◌}
-use native.Mathlib.Nat.{le_trans, mul-le-mul}
-use native.Mathlib.Omega.{arith}
+-- Each size has room for as many nodes as its test lets through.
+use Rattle.std.proofs.Common.{ℕ, ◌*◌, ◌≤◌, le_trans, arith}
+use native.Mathlib.Nat.{mul-le-mul}
 use Rattle.theorem_pivots.specs.Repeating.{distinct}
 use Rattle.theorem_pivots.proofs.Settled.{distinct_few, distinct_most}
 use Rattle.build_table.proofs.fill.Goals as goal
 
--- k nodes of at most 3 numbers
-sized : (k m n : ℕ) → n ≤ k → m ≤ 3 → (n * m ≤ k * 3) × (n * (m * m) ≤ k * 9)
-sized k m n h l = (mul-le-mul h l, mul-le-mul h (mul-le-mul l l))
+-- n nodes are k at most, of which l at most differ
+room : (k l m n : ℕ) → m ≤ 3 → n ≤ k → distinct m n ≤ l → (distinct m n * (m * m) ≤ l * 9) × (distinct m n * m ≤ l * 3) × (n * m ≤ k * 3)
+room k l m n small h d = (mul-le-mul d (mul-le-mul small small), mul-le-mul d small, mul-le-mul h small)
 
--- so there is room where n ≤ k, and no more than l of them differ
-room : (k l m n : ℕ) → m ≤ 3 → n ≤ k → distinct m n ≤ l → (n * m ≤ k * 3) × (distinct m n * m ≤ l * 3) × (distinct m n * (m * m) ≤ l * 9)
-room k l m n small h d =
-    let of-all = sized k m n h small in
-    let of-distinct = sized l m (distinct m n) d small in
-    (of-all.0, of-distinct.0, of-distinct.1)
+pub fill_with-requires : goal.fill_with-requires
+fill_with-requires c =
+    let p = c.args.plan.now in
+    let none : p.n ≤ 0 = omega arith in
+    let (entries, rows, numbers) = room 0 0 p.m p.n p.few none (le_trans (distinct_few p.m p.n) none) in
+    (c.requires, omega (arith, entries), omega (arith, rows), omega (arith, numbers), omega arith, omega arith, omega arith)
 
-few : (k m n : ℕ) → n ≤ k → distinct m n ≤ k
-few k m n h = le_trans (distinct_few m n) h
+pub fill_with-requires-then-plan-le30 : goal.fill_with-requires-then-plan-le30
+fill_with-requires-then-plan-le30 c =
+    let p = c.args.plan.now in
+    let (entries, rows, numbers) = room 30 30 p.m p.n p.few c.if-plan-le30.true (le_trans (distinct_few p.m p.n) c.if-plan-le30.true) in
+    (c.requires, entries, rows, numbers, omega arith, omega arith, omega arith)
 
-pub solve_general_thomas-requires : goal.solve_general_thomas-requires
-solve_general_thomas-requires c =
-    let p = c.args.plan in
-    let none : p.n ≤ 0 = omega (arith, c.if-n-eq0.true) in
-    let (all, rows, entries) = room 0 0 p.m p.n c.requires.0.few none (few 0 p.m p.n none) in (
-      c.requires.0,
-      c.requires.1,
-      record { for_entries = omega (arith, entries); for_rows = omega (arith, rows); for_solved = omega (arith, entries) },
-      omega (arith, all),
-    )
-
-pub solve_general_thomas-requires-then-n-le30 : goal.solve_general_thomas-requires-then-n-le30
-solve_general_thomas-requires-then-n-le30 c =
-    let p = c.args.plan in
-    let some = c.if-n-le30.true in
-    let (all, rows, entries) = room 30 30 p.m p.n c.requires.0.few some (few 30 p.m p.n some) in
-    (c.requires.0, c.requires.1, record { for_entries = entries; for_rows = rows; for_solved = entries }, all)
-
-pub solve_general_thomas-requires-2 : goal.solve_general_thomas-requires-2
-solve_general_thomas-requires-2 c =
-    let p = c.args.plan in
-    let (all, rows, entries) = room 255 91 p.m p.n c.requires.0.few c.requires.0.few_nodes (distinct_most p.m p.n) in
-    (c.requires.0, c.requires.1, record { for_entries = entries; for_rows = rows; for_solved = entries }, all)
+pub fill_with-requires-else-plan-le30 : goal.fill_with-requires-else-plan-le30
+fill_with-requires-else-plan-le30 c =
+    let p = c.args.plan.now in
+    let (entries, rows, numbers) = room 255 91 p.m p.n p.few p.few_nodes (distinct_most p.m p.n) in
+    (c.requires, entries, rows, numbers, omega arith, omega arith, omega arith)

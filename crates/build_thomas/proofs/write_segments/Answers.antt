@@ -31,7 +31,7 @@ write_segment_coeffs-requires c =
     let same : ends.m ≡ c.args.tables.now.m = c.requires.of_axis.ends_of_m in
     let width = 2 * ends.m + 2 in
     let i = c.loop-i.i in
-    let room : i * width + width ≤ length c.loop-i.chunk = omega (arith, inside c.requires i c.loop-i-test.true, kept c.loop-i.invariant) in (
+    let room : i * width + width ≤ length c.loop-i.chunk = omega (arith, inside c.requires i (omega arith), kept c.loop-i.invariant) in (
       c.requires.some,
       rw (c.node_numbers.ensures, ← same) (node_length c.requires i),
       rw (c.node_numbers-in-loop-i.ensures, ← same) (node_length c.requires (i + 1)),
@@ -54,4 +54,4 @@ loop-i-preserved c =
       points_dy n c.args.points i (omega arith),
       add-one,
     ))
-    (rw next_part (inside c.requires i c.loop-i-test.true))
+    (rw next_part (inside c.requires i (omega arith)))
