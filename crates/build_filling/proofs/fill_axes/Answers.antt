@@ -1,4 +1,4 @@
-use Rattle.std.proofs.Common.{◌+◌, ◌*◌, arith}
+use Rattle.std.proofs.Common.{◌+◌, ◌*◌}
 use Rattle.law_lists.proofs.Lists.{length-listed, part_inside}
 use Rattle.law_lists.proofs.Places.{next_part}
 use Rattle.law_lists.proofs.PartedList.{none, step}
