@@ -84,7 +84,7 @@ fn factor_node(
     build_solving::solve_matrix(&factored, tables.c, &mut solved[at..at + m * m]);
 }
 
-// The inner nodes 0 to n − 1, one after the other.
+// The inner nodes 0 to n − 1, one after the other. The lists may have room for more than n.
 pub fn factor_nodes(
     tables: &BlockMatrices,
     n: usize,

@@ -33,7 +33,7 @@ pub fn exchange_entries(m: usize, a: &mut [f64], k: usize, p: usize)
     }
 }
 
-// Each row is its own at the start.
+// Each row is its own at the start: R13's list of rows is one of numbers, as in the definitions.
 pub fn identity(rows: &mut [usize])
     ensures { rows.new ≡ listed (length rows.old) (λ i. i) }
 {

@@ -2,7 +2,7 @@
 // the definitions of crates/rules/specs/Solve.antt, for every m.
 //
 // A matrix to be factored is a list, row by row, as in the definitions. One that is only multiplied
-// with, or solved with column by column, is kept by columns: `transposed`.
+// with, or solved with column by column, is kept by columns: `transposed`. Its m stays beside it, as in the definitions.
 #![tactic(auto)]
 
 ghost use Rattle.std.specs.Prelude.{◌≡◌, ◌+◌, ◌*◌, ◌≤◌, ◌<◌, length};
