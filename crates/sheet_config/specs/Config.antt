@@ -3,8 +3,8 @@ use Rattle.std.specs.Prelude.{false, ℕ, ◌≤◌, ℤ}
 use Rattle.std.specs.Float.{binary64}
 use Rattle.std.specs.Float.Ieee.{of_int}
 use Rattle.rules.specs.declared.OutOfRangeMode.TheVariants.{Error}
-use Rattle.rules.specs.declared.BoundaryState.TheVariants.{Given}
 use Rattle.rules.specs.declared.SplineConfig.{SplineConfig}
+use Rattle.rules.specs.Build.{given}
 use Rattle.rules.specs.SheetAnswers.{order_of}
 use Rattle.sheet_record.specs.declared.SheetNumbers.{SheetNumbers}
 use Rattle.sheet_record.specs.Held.{Near}
@@ -16,8 +16,8 @@ config_of order from to axes start end = record {
   s_min = record { 0 = of_int binary64 from };
   s_max = record { 0 = of_int binary64 to };
   out_of_range_mode = Error;
-  start_state = Given axes start false;
-  end_state = Given axes end false;
+  start_state = given axes start false;
+  end_state = given axes end false;
 }
 
 abbrev pub config_read : SheetNumbers → SplineConfig
