@@ -2,20 +2,19 @@
 use mathlib.Core.Path.{◌≡◌, refl, sym, ap, ◌∙◌, subst}
 use mathlib.Core.List.{List, [], ◌∷◌}
 use Prim.Native.Nat.{ℕ, suc, ◌*◌, ◌-◌, ◌≤◌, ◌<◌}
-use native.Mathlib.Nat.{le_trans, le_of_eq, mul-le-mul, mul-le-mul_right, sub-zero}
+use native.Mathlib.Nat.{le_trans, le_of_eq, mul-le-mul_right}
 use native.Mathlib.Omega.{arith}
 use lib.IntN.{ℤ}
 use lib.ListN.{length, get_or, take}
 use lib.Ieee.{Float, binary64, of_int}
 use Rattle.law_lists.proofs.Filling.{listed_ext, joined_ext}
 use Rattle.rules.specs.Sheets.{Axis, range, heading, Sheet, sheet}
-use Rattle.rules.specs.declared.SplineConfig.{SplineConfig}
-use Rattle.rules.specs.Build.{table_length, input_of}
+use Rattle.rules.specs.Build.{BuildInput, table_length, input_of}
 use Rattle.rules.specs.SheetAnswers.{points_of, start_of, end_of, of_each, columns_of, column_major, order_of, sheet_input, cells_of}
 use Rattle.sheet_record.specs.declared.SheetNumbers.{SheetNumbers}
 use Rattle.sheet_record.specs.Held.{Near, Held, axes_in, ReadOf}
 use Rattle.sheet_columns.specs.Columns.{columns_at, InReach}
-use Rattle.sheet_config.specs.Config.{config_read, Small}
+use Rattle.sheet_config.specs.Config.{config_read}
 use Rattle.sheet_columns.specs.Input.{input_read, Reached, Prepared}
 use Rattle.sheet_columns.proofs.States.{columns_long}
 
@@ -105,13 +104,9 @@ pub cells_read : (s : Sheet) {n : SheetNumbers} {points start end : List ℤ} �
 unfolding cells_of
 cells_read s h = ap cells_of (input_read_lem s h)
 
--- how many numbers the lists have
-pub sizes : (n : SheetNumbers) → Small n → (n.points * n.axes ≤ 2056) × (n.start * n.axes ≤ 24) × (n.end * n.axes ≤ 24)
-sizes n h = (mul-le-mul h.few_points h.few_axes, mul-le-mul h.few_start h.few_axes, mul-le-mul h.few_end h.few_axes)
-
--- and so is what a build is lent, the lists from their start on
-pub input_lent : (s : Sheet) {n : SheetNumbers} {points start end : List ℤ} {waypoints first last : List Float}
-    → ReadOf s n points start end → Prepared n points start end waypoints first last → (config : SplineConfig) → config ≡ config_read n
-    → input_of config n.points n.axes (take (n.points * n.axes - 0) waypoints) (take (n.start * n.axes - 0) first) (take (n.end * n.axes - 0) last)
-    ≡ sheet_input s
-input_lent s read p config e = simp (sub-zero, e, p.waypoints_are, p.first_is, p.last_is) (input_read_lem s read)
+-- and so is what a build is given
+pub input_given : (s : Sheet) {n : SheetNumbers} {points start end : List ℤ} {waypoints first last : List Float} {b : BuildInput}
+    → ReadOf s n points start end → Prepared n points start end waypoints first last
+    → b ≡ input_of (config_read n) n.points n.axes (take (n.points * n.axes) waypoints) (take (n.start * n.axes) first) (take (n.end * n.axes) last)
+    → b ≡ sheet_input s
+input_given s read p e = e ∙ simp (p.waypoints_are, p.first_is, p.last_is) (input_read_lem s read)

@@ -2,11 +2,14 @@
 // crates/sheet_record; crates/sheet_table builds.
 #![tactic(auto)]
 
-ghost use Rattle.std.specs.Prelude.{◌≡◌, ◌++◌, ◌+◌, ◌*◌, ◌≤◌, length, drop};
+ghost use Rattle.std.specs.Prelude.{◌≡◌, ◌++◌, ◌+◌, ◌*◌, ◌≤◌, length, take, drop};
 ghost use Rattle.law_lists.specs.Lists.{listed};
+ghost use Rattle.rules.specs.Build.{given_by, input_of};
+ghost use Rattle.sheet_config.specs.Config.{Small, config_read};
 ghost use Rattle.sheet_columns.specs.Columns.{InReach, number_at, columns_at};
 ghost use Rattle.sheet_columns.specs.Input.{Reached, Prepared};
 
+use rules::SplineInput;
 use sheet_record::SheetNumbers;
 
 // Column k: number k of each list.
@@ -14,10 +17,8 @@ fn column(lists: &[i64], stride: usize, rows: usize, k: usize, out: &mut [f64])
     requires { InReach stride rows (k + 1) lists.now × (length out.old ≡ rows) }
     ensures { out.new ≡ listed rows (number_at stride lists.now k) }
 {
-    let mut a = 0;
-    while a < rows {
+    for a in 0..rows {
         out[a] = lists[a * stride + k] as f64;
-        a += 1;
     }
 }
 
@@ -27,11 +28,9 @@ fn transpose(lists: &[i64], stride: usize, rows: usize, columns: usize, out: &mu
     ensures { out.new
         ≡ columns_at stride rows columns lists.now ++ drop (columns * rows) out.old }
 {
-    let mut k = 0;
-    while k < columns {
+    for k in 0..columns {
         let at = k * rows;
         column(lists, stride, rows, k, &mut out[at..at + rows]);
-        k += 1;
     }
 }
 
@@ -56,4 +55,25 @@ pub fn prepare(
     transpose(points, 258, axes, n.points, waypoints);
     transpose(start, 4, axes, n.start, first);
     transpose(end, 4, axes, n.end, last);
+}
+
+// What a build is given: the configuration, and the first cells of the lists.
+pub fn input<'a>(
+    n: SheetNumbers,
+    waypoints: &'a [f64],
+    first: &'a [f64],
+    last: &'a [f64],
+) -> SplineInput<'a>
+    requires { Small n × (length waypoints.now ≡ 2056) × (length first.now ≡ 24) × (length last.now ≡ 24) }
+    ensures { given_by result ≡ input_of (config_read n) n.points n.axes
+        (take (n.points * n.axes) waypoints.now) (take (n.start * n.axes) first.now) (take (n.end * n.axes) last.now) }
+{
+    SplineInput {
+        config: sheet_config::config_of(n),
+        points: n.points,
+        axes: n.axes,
+        waypoints: &waypoints[..n.points * n.axes],
+        start: &first[..n.start * n.axes],
+        end: &last[..n.end * n.axes],
+    }
 }

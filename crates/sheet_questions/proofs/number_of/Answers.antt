@@ -1,7 +1,7 @@
 -- `sheet_questions::number_of` meets its contract: the questions are asked of what a build of the sheet is given. Assumes nothing.
 use mathlib.Core.Path.{refl, ap₂, ◌∙◌}
 use Rattle.rules.specs.Build.{build_number}
-use Rattle.sheet_columns.proofs.Read.{reached, cells_read, input_lent}
+use Rattle.sheet_columns.proofs.Read.{reached, cells_read, input_given}
 use Rattle.sheet_questions.proofs.number_of.Goals as goal
 
 -- what was read is within reach, and there is room for it
@@ -13,4 +13,4 @@ pub returns : goal.returns
 unfolding build_number
 returns c s read =
     c.build_questions.ensures
-    ∙ ap₂ build_number (input_lent s read c.prepare.ensures c.config_of-config.result c.config_of-config.ensures) (c.cells_of-cells.ensures ∙ cells_read s read)
+    ∙ ap₂ build_number (input_given s read c.prepare.ensures c.input-input.ensures) (c.cells_of.ensures ∙ cells_read s read)

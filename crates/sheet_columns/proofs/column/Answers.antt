@@ -1,0 +1,14 @@
+-- `sheet_columns::column` meets its contract. Assumes nothing.
+use native.Mathlib.Omega.{arith}
+use Rattle.rules.proofs.FilledList.{none, step}
+use Rattle.sheet_config.proofs.Exact.{back}
+use Rattle.sheet_columns.specs.Columns.{number_in}
+use Rattle.sheet_columns.proofs.column.Goals as goal
+
+pub loop-a-init : goal.loop-a-init
+loop-a-init c = none _ _
+
+pub loop-a-preserved : goal.loop-a-preserved
+loop-a-preserved c =
+    let number = number_in c.args.stride c.args.lists.now c.args.k c.loop-a.a in
+    step c.loop-a.invariant (rw (back number (c.requires.0.near _ _ (omega arith) (omega arith)))) (omega arith)
