@@ -25,6 +25,7 @@ pub fn begin(at: usize) -> NumberReading
 
 // N2, N4, N6: the next bytes, each looked at once, up to the first that is not part of the number. After two of them a number is in its
 // digits or over, so that the loop over the others has one stage to look for.
+#[tactic(auto, using(crate::proofs::Two::after_two, crate::proofs::Two::two_and_others))]
 pub fn go_on(reading: NumberReading, bytes: &[u8]) -> NumberReading
     ensures { result ≡ go_on reading bytes.now }
 {
@@ -39,10 +40,7 @@ fn signed(minus: u8, size: u64) -> i64
     ensures { result ≡ signed_by (eqb minus 1) size }
 {
     let value = size as i64;
-    if minus == 1 {
-        return 0 - value;
-    }
-    value
+    if minus == 1 { -value } else { value }
 }
 
 // Whether the record is one of a number that was read.
@@ -50,26 +48,18 @@ fn is_read(reading: NumberReading) -> bool
     ensures is { result ≡ (sound reading && is_read reading.stage) }
     ensures bounds { result ≡ true → reading.size ≤ 2 ^ 40 }
 {
-    if reading.stage < ZERO {
-        return false;
-    }
-    if ENDED < reading.stage {
-        return false;
-    }
-    is_sound(reading)
+    ZERO <= reading.stage && reading.stage <= ENDED && is_sound(reading)
 }
 
 // Whether it is one of a number beyond ±2^40.
 fn is_large(reading: NumberReading) -> bool
     ensures { result ≡ (sound reading && eqb reading.stage too_large) }
 {
-    if reading.stage != LARGE {
-        return false;
-    }
-    is_sound(reading)
+    reading.stage == LARGE && is_sound(reading)
 }
 
 // N2, N5, N7: what the record says if nothing more comes.
+#[tactic(auto, unfolding(rules::specs::SheetNumbers::finished))]
 pub fn finish(reading: NumberReading) -> NumberAnswer
     ensures { result ≡ finished reading }
 {

@@ -81,6 +81,7 @@ fn belongs(stage: u8, b: u8) -> bool
 }
 
 // N1, N2: the next byte. No digit follows a 0, and a minus or a place without a first digit is at fault.
+#[tactic(auto, unfolding(rules::specs::SheetNumbers::taken))]
 pub fn taken(reading: NumberReading, b: u8) -> NumberReading
     requires { reading.size ≤ 2 ^ 40 }
     ensures { result ≡ taken reading b }

@@ -29,6 +29,7 @@ fn is_open(reading: NumberReading) -> bool
 }
 
 // The byte at a place, where there is one and the record takes it.
+#[tactic(auto, using(crate::proofs::Bytes::one_none, crate::proofs::Bytes::one_byte, theorem_numbers::proofs::Going::stays))]
 pub fn next_byte(reading: NumberReading, bytes: &[u8], at: usize) -> NumberReading
     ensures { result ≡ go_on reading (take 1 (drop at bytes.now)) }
 {
@@ -51,6 +52,7 @@ fn is_more(size: u64, b: u8) -> bool
 }
 
 // The bytes from a place on, of a record that is in its digits, or takes none of them.
+#[tactic(auto, using(crate::proofs::Bytes::settled_stays, theorem_numbers::proofs::Pieces::unsound_is_over, theorem_numbers::proofs::Going::stays))]
 pub fn digits(reading: NumberReading, bytes: &[u8], from: usize) -> NumberReading
     requires { Settled reading (drop from bytes.now) }
     ensures { result ≡ go_on reading (drop from bytes.now) }

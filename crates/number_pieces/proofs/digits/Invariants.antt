@@ -5,8 +5,6 @@ use Rattle.number_pieces.proofs.digits.Given as goal
 
 abbrev pub invariant-loop-i : goal.invariant-loop-i
 invariant-loop-i l =
-    record {
-      in-digits : l.kept.stage ≡ in_digits;
-      is_sound : sound l.kept ≡ true;
-      on : go_on l.kept (drop l.i l.bytes) ≡ go_on l.fn.reading (drop l.fn.from l.bytes);
-    }
+    (l.kept.stage ≡ in_digits)
+    × (sound l.kept ≡ true)
+    × (go_on l.kept (drop l.i l.bytes) ≡ go_on l.fn.reading (drop l.from l.bytes))
