@@ -1,5 +1,5 @@
 -- Sums modulo 2^64 with their carry, and products by columns. Assumes nothing.
-use Rattle.std.proofs.Common.{◌≡◌, ℕ, ◌+◌, ◌*◌, ◌/◌, ◌%◌, ◌^◌, ◌<◌, sym, ap, ◌∙◌, subst, ap₂, le_of_eq, lt_of_lt_of_le, le-add_right, lt_of_le_of_lt, le_of_lt, mul_assoc, add-mul, lt_of_mul-lt-mul_right, mul-le-mul_left, mul-lt-mul_of_pos_right, div-add-mod', mul-add, mul_right_comm, mod-lt, arith, rules, pow_pos, pow-add, nat_lt}
+use Rattle.std.proofs.Common.{◌≡◌, ℕ, ◌+◌, ◌*◌, ◌/◌, ◌%◌, ◌^◌, ◌<◌, sym, ap, ◌∙◌, ap₂, le_of_eq, lt_of_lt_of_le, lt_of_le_of_lt, le_of_lt, mul_assoc, add-mul, mul-le-mul_left, mul-lt-mul_of_pos_right, div-add-mod', mul-add, mul_right_comm, mod-lt, arith, rules, pow_pos, pow-add, nat_lt}
 use native.Mathlib.Nat.{mul-mul-mul_comm}
 use mir.Val.{bool_byte}
 
@@ -34,10 +34,3 @@ multiplied n a b k l e =
         mul-add (a₁ * n) (b₁ * n) b₀ ∙ ap₂ (λ (x y : ℕ). x + y) (mul-mul-mul_comm a₁ n b₁ n) (mul_right_comm a₁ n b₀) in
         let s : a₀ * (b₁ * n + b₀) ≡ a₀ * b₁ * n + a₀ * b₀ = mul-add a₀ (b₁ * n) b₀ ∙ ap (λ (x : ℕ). x + a₀ * b₀) (sym (mul_assoc a₀ b₁ n)) in
         omega (arith, i, j, o, p, q, s, e)
-
--- ---- the high digit of a bounded number
-
-pub high_lt : (h l y k : ℕ) → h * 2 ^ 64 + l ≡ y → y < 2 ^ (k + 64) → h < 2 ^ k
-high_lt h l y k e u =
-    lt_of_mul-lt-mul_right (2 ^ 64)
-    (lt_of_le_of_lt (le-add_right (h * 2 ^ 64) l) (subst (λ (a : ℕ). a < 2 ^ k * 2 ^ 64) (sym e) (subst (λ (a : ℕ). y < a) (pow-add 2 k 64) u)))
