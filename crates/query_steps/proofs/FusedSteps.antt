@@ -1,16 +1,19 @@
 -- A derivative by fused steps, as code finds it: step by step, of coefficients that it reads. Assumes nothing.
 use mathlib.Core.Path.{◌≡◌, refl, ap, ◌∙◌}
-use mathlib.Core.Bool.{cond}
+use mathlib.Core.Bool.{Bool, true, false, cond}
 use mathlib.Core.List.{List, [], ◌∷◌}
-use Prim.Native.Nat.{ℕ, suc, ◌+◌, ◌-◌}
+use Prim.Native.Nat.{ℕ, suc, ◌+◌, ◌-◌, ◌<◌}
 use native.Mathlib.Omega.{arith}
 use lib.Dec.{eqb}
-use lib.ListN.{length, get_or}
+use lib.ListN.{length, get_or, drop, drop_of_length-le}
+use lib.Seq.{drop-cons}
 use lib.Ieee.{Float, nan, binary64}
-use Rattle.rules.specs.Floats.{◌⊗◌, of_count}
+use Rattle.rules.specs.Floats.{◌⊗◌, +0, of_count}
 use Rattle.law_lists.specs.Lists.{listed}
 use Rattle.rules.specs.Fused.{fused}
-use Rattle.rules.specs.Query.{derivative_factor, term, fused_steps, fused_derivative}
+use Rattle.rules.specs.Query.{writes, derivative_factor, term, fused_steps, fused_derivative}
+use Rattle.query_loop.specs.declared.Derivatives.{Derivatives}
+use Rattle.query_loop.specs.Level.{asked, derivative_of}
 use Rattle.rules.proofs.Cells.{read}
 use Rattle.law_lists.proofs.Filling.{listed_ext}
 
@@ -24,12 +27,42 @@ unfolding fused_steps
 is_found last = refl
 is_found {t} (step {x = x} e h) = e ∙ ap (λ (s : Float). fused binary64 s t x) (is_found h)
 
+-- the same in a list that is there: the last term, and a term before others
+pub from_last : (t : Float) (xs : List Float) (k : ℕ) → suc k ≡ length xs → fused_steps t (drop k xs) ≡ get_or xs k nan
+unfolding fused_steps
+from_last t xs k e =
+    let none : drop (suc k) xs ≡ [] = drop_of_length-le xs {i = suc k} (omega arith) in
+    let l : k < length xs = omega arith in
+    rw (drop-cons xs k nan l, none)
+
+pub from_next : (t : Float) (xs : List Float) (k next : ℕ) → next ≡ suc k → next < length xs
+    → fused_steps t (drop k xs) ≡ fused binary64 (fused_steps t (drop next xs)) t (get_or xs k nan)
+unfolding fused_steps
+from_next t xs k next e l =
+    let here : k < length xs = omega arith in
+    let inside : suc k < length xs = omega arith in
+    rw (e, drop-cons xs k nan here, drop-cons xs (suc k) nan inside)
+
 -- a term, as code reads its coefficient
 abbrev term_read : List Float → ℕ → ℕ → Float
 term_read a k j = cond (eqb (derivative_factor j k) 1) (get_or a j nan) (of_count (derivative_factor j k) ⊗ get_or a j nan)
 
--- what is found of derivative k's terms is derivative k: each coefficient that is read is there
-pub derivative_is : {order : ℕ} (a : List Float) {t r : Float} (k : ℕ) → length a ≡ suc order
-    → Found t (listed (order + 1 - k) (λ j. term_read a k (k + j))) r → r ≡ fused_derivative order a t k
+-- What fused steps give of derivative k's terms is derivative k: each coefficient that is read is there.
+pub derivative_of_read : {order : ℕ} (a : List Float) (t : Float) {r : Float} (k : ℕ) → length a ≡ suc order
+    → r ≡ fused_steps t (listed (order + 1 - k) (λ j. term_read a k (k + j))) → r ≡ fused_derivative order a t k
 unfolding term fused_derivative
-derivative_is {order} a {t} k e h = is_found h ∙ ap (fused_steps t) (listed_ext (order + 1 - k) _ _ (λ j l. rw (read a (k + j) (omega arith))))
+derivative_of_read {order} a t k e h = h ∙ ap (fused_steps t) (listed_ext (order + 1 - k) _ _ (λ j l. rw (read a (k + j) (omega arith))))
+
+-- the same, found step by step
+pub derivative_is : {order : ℕ} (a : List Float) (t : Float) {r : Float} (k : ℕ) → length a ≡ suc order
+    → Found t (listed (order + 1 - k) (λ j. term_read a k (k + j))) r → r ≡ fused_derivative order a t k
+derivative_is a t k e h = derivative_of_read a t k e (is_found h)
+
+-- what a level asks for of four numbers that are derivatives 0 to 3 of g, the third where the level writes it
+pub asked_of : (level : ℕ) (g : ℕ → Float) (d : Derivatives) → d.q ≡ g 0 → d.dq ≡ g 1 → d.ddq ≡ g 2 → (writes level 3 ≡ true → d.dddq ≡ g 3)
+    → asked level (derivative_of d) ≡ asked level g
+asked_of level g d e₀ e₁ e₂ e₃ = rw (e₀, e₁, e₂, third (writes level 3) e₃)
+  where
+    third : (w : Bool) → (w ≡ true → d.dddq ≡ g 3) → cond w d.dddq +0 ≡ cond w (g 3) +0
+    third true e = e refl
+    third false e = refl

@@ -2,34 +2,41 @@
 // asks for.
 #![tactic(auto)]
 
-ghost use Rattle.std.specs.Prelude.{◌≡◌, T, length};
-ghost use Rattle.rules.specs.Query.{valid_level, fused_derivative};
+ghost use Rattle.std.specs.Prelude.{◌≡◌, ◌≤◌, length};
+ghost use Rattle.rules.specs.Query.{fused_steps, fused_derivative};
+ghost use Rattle.query_levels.specs.Levels.{level_number};
 ghost use Rattle.query_loop.specs.Level.{asked};
 
 use fused::mul_add;
-use query_loop::{Derivatives, position, up_to_second};
+use query_levels::Level;
+use query_loop::Derivatives;
 
-// F2, R26: order 3, by fused steps: the position.
-fn cubic_position(a: &[f64], t: f64) -> f64
-    requires { length a.now ≡ 4 }
-    ensures { result ≡ fused_derivative 3 a.now t 0 }
+// F2, R26: fused steps, from the last term down.
+fn fused_steps<const N: usize>(t: f64, terms: [f64; N]) -> f64
+    requires { 1 ≤ N }
+    ensures { result ≡ fused_steps t terms.entry }
 {
-    mul_add(mul_add(mul_add(a[3], t, a[2]), t, a[1]), t, a[0])
+    let mut found = terms[N - 1];
+    for k in (0..N - 1).rev() {
+        found = mul_add(found, t, terms[k]);
+    }
+    found
 }
 
 // F2, R26: order 3, by fused steps. They are taken of each derivative in turn: a step waits for the one before it, and
-// those of the others do not.
-pub fn cubic(level: u8, a: &[f64], t: f64) -> Derivatives
-    requires { T (valid_level level) × (length a.now ≡ 4) }
-    ensures { result ≡ asked level (fused_derivative 3 a.now t) }
+// those of the others do not. (One derivative after the other was a seventh slower, and a loop over the coefficients, for this order
+// and for 5, a fiftieth.)
+pub fn cubic(level: Level, a: &[f64], t: f64) -> Derivatives
+    requires { length a.now ≡ 4 }
+    ensures { result ≡ asked (level_number level) (fused_derivative 3 a.now t) }
 {
-    if level == 0 {
-        return position(cubic_position(a, t));
-    }
     let a0 = a[0];
     let a1 = a[1];
     let a2 = a[2];
     let a3 = a[3];
+    if let Level::Positions = level {
+        return Derivatives::position(fused_steps(t, [a0, a1, a2, a3]));
+    }
     let two = 2.0 * a2;
     let six = 6.0 * a3;
     let q2 = mul_add(a3, t, a2);
@@ -38,40 +45,29 @@ pub fn cubic(level: u8, a: &[f64], t: f64) -> Derivatives
     let q1 = mul_add(q2, t, a1);
     let dq = mul_add(dq2, t, a1);
     let q = mul_add(q1, t, a0);
-    if level == 2 {
-        return up_to_second(q, dq, ddq);
-    }
-    Derivatives {
+    let all = Derivatives {
         q,
         dq,
         ddq,
         dddq: six,
-    }
-}
-
-// F2, R26: order 5, by fused steps: the position.
-fn quintic_position(a: &[f64], t: f64) -> f64
-    requires { length a.now ≡ 6 }
-    ensures { result ≡ fused_derivative 5 a.now t 0 }
-{
-    let upper = mul_add(mul_add(a[5], t, a[4]), t, a[3]);
-    mul_add(mul_add(mul_add(upper, t, a[2]), t, a[1]), t, a[0])
+    };
+    all.up_to(level)
 }
 
 // F2, R26: order 5, by fused steps, of each derivative in turn.
-pub fn quintic(level: u8, a: &[f64], t: f64) -> Derivatives
-    requires { T (valid_level level) × (length a.now ≡ 6) }
-    ensures { result ≡ asked level (fused_derivative 5 a.now t) }
+pub fn quintic(level: Level, a: &[f64], t: f64) -> Derivatives
+    requires { length a.now ≡ 6 }
+    ensures { result ≡ asked (level_number level) (fused_derivative 5 a.now t) }
 {
-    if level == 0 {
-        return position(quintic_position(a, t));
-    }
     let a0 = a[0];
     let a1 = a[1];
     let a2 = a[2];
     let a3 = a[3];
     let a4 = a[4];
     let a5 = a[5];
+    if let Level::Positions = level {
+        return Derivatives::position(fused_steps(t, [a0, a1, a2, a3, a4, a5]));
+    }
     let two = 2.0 * a2;
     let six = 6.0 * a3;
     let q4 = mul_add(a5, t, a4);
@@ -86,9 +82,11 @@ pub fn quintic(level: u8, a: &[f64], t: f64) -> Derivatives
     let q1 = mul_add(q2, t, a1);
     let dq = mul_add(dq2, t, a1);
     let q = mul_add(q1, t, a0);
-    if level == 2 {
-        return up_to_second(q, dq, ddq);
-    }
-    let dddq = mul_add(mul_add(60.0 * a5, t, 24.0 * a4), t, six);
-    Derivatives { q, dq, ddq, dddq }
+    let dddq = if level.writes(3) {
+        fused_steps(t, [six, 24.0 * a4, 60.0 * a5])
+    } else {
+        0.0
+    };
+    let all = Derivatives { q, dq, ddq, dddq };
+    all.up_to(level)
 }
