@@ -4,7 +4,7 @@
 use mathlib.Core.Path.{◌≡◌, refl}
 use mathlib.Core.Bool.{Bool, true, false, cond}
 use mathlib.Core.List.{List, [], ◌∷◌}
-use Prim.Native.Nat.{ℕ, suc, ◌-◌, ◌≤◌, ◌<◌}
+use Prim.Native.Nat.{ℕ, suc, ◌<◌}
 use native.Mathlib.Omega.{arith}
 use lib.ListN.{length, get_or, drop, drop_of_length-le}
 use lib.Seq.{drop-cons}
@@ -35,21 +35,13 @@ module _ (level : ℕ) (a : List Float) (t : Float) where
       same true = refl
       same false = refl
 
-  -- one coefficient more, by what `general_step` promises
-  pub step : {b r : Derivatives} {k : ℕ} → Looped level a t b k → 0 < k
-      → ((y : Float) (rest : List Float) → b ≡ looped level t (y ∷ rest) → r ≡ looped level t (get_or a (k - 1) nan ∷ (y ∷ rest)))
-      → Looped level a t r (k - 1)
-  step {k = k} h l promise = record { inside = omega arith; is = rw (one_more, from_k) (promise _ _ (rw from_k at h.is)) }
+  -- one coefficient more, by what `step` promises
+  pub step : {b r : Derivatives} (k next : ℕ) → next ≡ suc k → Looped level a t b next
+      → ((y : Float) (rest : List Float) → b ≡ looped level t (y ∷ rest) → r ≡ looped level t (get_or a k nan ∷ (y ∷ rest)))
+      → Looped level a t r k
+  step k next e h promise =
+      let here : k < length a = omega (arith, h.inside) in
+      record { inside = here; is = rw (drop-cons a k nan here, ← e, from_next) (promise _ _ (rw from_next at h.is)) }
     where
-      from_k : drop k a ≡ get_or a k nan ∷ drop (suc k) a
-      from_k = drop-cons a k nan h.inside
-
-      one_more : drop (k - 1) a ≡ get_or a (k - 1) nan ∷ drop k a
-      one_more =
-          let next : suc (k - 1) ≡ k = omega arith in
-          rw next at (drop-cons a (k - 1) nan (omega arith))
-
-  pub end : {b : Derivatives} {k : ℕ} → Looped level a t b k → k ≤ 0 → b ≡ looped level t a
-  end {k = k} h l =
-      let none : k ≡ 0 = omega arith in
-      rw none at h.is
+      from_next : drop next a ≡ get_or a next nan ∷ drop (suc next) a
+      from_next = drop-cons a next nan h.inside
