@@ -10,7 +10,9 @@ use lib.Ieee.{Float}
 use Rattle.rules.specs.declared.PathRecord.{PathRecord}
 use Rattle.law_lists.specs.Lists.{listed}
 use Rattle.rules.specs.Floats.{+0}
-use Rattle.rules.specs.Query.{Lengths, eval_poly, per_unit_of_s}
+use Rattle.rules.specs.Query.{Lengths, writes, eval_poly, per_unit_of_s}
+use Rattle.query_levels.specs.declared.Buffers.{Buffers}
+use Rattle.query_levels.specs.Lent.{SameBuffers}
 use Rattle.rules.proofs.Build.{by_order}
 use Rattle.law_lists.proofs.Places.{cell_inside}
 use Rattle.rules.proofs.FilledList as Fills
@@ -43,6 +45,15 @@ module _ {w : Bool} {i : ℕ} {f : ℕ → Float} {xs ys : List Float} where
   whole (yes e h) n l = rw e (Fills.whole h (n e) l)
   whole (not e h) n l = rw e h
 
+-- ---- the four buffers, where axis i is next
+
+pub record Run (f : ℕ → ℕ → Float) (level i : ℕ) (before now : Buffers) : Type 0 where
+  pub is_q : Filled i (f 0) before.q.now now.q.now
+  pub is_dq : Written (writes level 1) i (f 1) before.dq.now now.dq.now
+  pub is_ddq : Written (writes level 2) i (f 2) before.ddq.now now.ddq.now
+  pub is_dddq : Written (writes level 3) i (f 3) before.dddq.now now.dddq.now
+  pub same : SameBuffers before now
+
 -- ---- derivative k of an axis
 
 abbrev pub cell : ℕ → ℕ → Float → List Float → ℕ → Float → ℕ → ℕ → Float
@@ -54,6 +65,10 @@ pub asked_for : {w : Bool} {x y : Float} → x ≡ cond w y +0 → w ≡ true �
 asked_for {y = y} e h = e ∙ ap (λ (w : Bool). cond w y +0) h
 
 -- ---- places
+
+-- the cell of an axis is inside, in a buffer that is as long as the axes
+pub room : {w : Bool} {n axes axis : ℕ} → (w ≡ true → n ≡ axes) → axis < axes → w ≡ true → axis < n
+room e l t = rw (e t) l
 
 module _ {p : PathRecord} {coefficients : List Float} {segment level : ℕ} {n : Lengths} (h : Evaluable p coefficients segment level n) where
   pub order_bound : p.order ≤ 7

@@ -3,7 +3,7 @@ use Rattle.std.specs.Prelude.{◌≡◌, true, cond, List, ℕ, ◌<◌, ◌≤�
 use Rattle.rules.specs.declared.PathRecord.{PathRecord}
 use Rattle.law_lists.specs.Lists.{listed}
 use Rattle.rules.specs.Build.{valid_order, table_length}
-use Rattle.rules.specs.Query.{Lengths, Buffers, valid_level, writes, eval_poly, per_unit_of_s, segment_of}
+use Rattle.rules.specs.Query.{Lengths, Buffers, writes, eval_poly, per_unit_of_s, segment_of}
 
 -- what the questions and the lookup have found out
 pub record Evaluable (p : PathRecord) (coefficients : List Float) (segment level : ℕ) (n : Lengths) : Type 0 where
@@ -12,7 +12,6 @@ pub record Evaluable (p : PathRecord) (coefficients : List Float) (segment level
   pub few_segments : p.segments ≤ 256
   pub inside : segment < p.segments
   pub table : length coefficients ≡ table_length p.axes p.segments p.order
-  pub known_level : T (valid_level level)
   pub q : n.q ≡ p.axes
   pub dq : writes level 1 ≡ true → n.dq ≡ p.axes
   pub ddq : writes level 2 ≡ true → n.ddq ≡ p.axes
