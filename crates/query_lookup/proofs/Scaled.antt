@@ -1,6 +1,9 @@
 -- In a range that the question lets pass, no s that it takes gives a NaN for the position counted in segments: `scaled_is_a_number`. Assumes nothing.
 use Rattle.std.proofs.Common.{◌≡◌, Bool, true, false, cond, not, ◌&&◌, T, sym, subst}
 use lib.Ieee.{binary64, lt, le, eq, is_nan}
+use lib.Ieee.Fits.{and_l, and_r}
+use Rattle.std.specs.Float.{◌≤ᶠ◌}
+use Rattle.std.proofs.lemmas.Float.{le_of_lt}
 use Rattle.rules.specs.declared.PathParam.{PathParam}
 use Rattle.rules.specs.declared.OutOfRangeMode.{OutOfRangeMode}
 use Rattle.rules.specs.declared.OutOfRangeMode.TheVariants.{Error, Clamp}
@@ -54,3 +57,16 @@ scaled_is_a_number p s h r =
     mul_number binary64 _ _
     (sub_number binary64 (clamped p.mode lo hi s).0 lo.0 (clamped_finite p.mode lo hi s low high inside) low)
     (equal_positive p.inv_ds inv (above_zero inv bounded above) equal)
+
+-- and its ends are in order
+pub ends_in_order : (p : PathRecord) → T (valid_path_range p) → p.s_min.0 ≤ᶠ p.s_max.0
+unfolding valid_range
+ends_in_order p h =
+    let lo = p.s_min in
+    let hi = p.s_max in
+    let inv = inv_ds_of p.segments lo hi in
+    let bounded : Bool = finite lo.0 && finite hi.0 in
+    le_of_lt lo.0 hi.0
+    (and_r bounded (lt lo.0 hi.0)
+    (and_l (bounded && lt lo.0 hi.0) (finite inv)
+    (and_l (bounded && lt lo.0 hi.0 && finite inv) (lt +0 inv) (and_l (valid_range p.segments lo hi) (eq p.inv_ds inv) h))))

@@ -11,9 +11,9 @@ use lib.Ieee.Fits.{down_pos}
 use lib.Ieee.Order.{le_of_values}
 use lib.Ieee.Positive.{positive, num, den, den_pos}
 use Rattle.rules.specs.declared.SegmentUnits.{SegmentUnits}
-use Rattle.rules.specs.declared.Lookup.TheVariants.{At}
+use Rattle.rules.specs.declared.SegmentTau.{SegmentTau}
 use Rattle.rules.specs.Floats.{◌⊖◌, +0, +1, of_count}
-use Rattle.rules.specs.Query.{whole_part, exact_rest, located, lookup_says}
+use Rattle.rules.specs.Query.{whole_part, exact_rest, located}
 use Rattle.law_rounding.proofs.Numbers.{less_or_not}
 use Rattle.law_rounding.proofs.Held.{Held, fits_held, held_fits, round_held, difference_held}
 use Rattle.law_rounding.proofs.Values.{value_scaled, sub_self}
@@ -170,13 +170,15 @@ below_power w {n} {x} h i =
 -- ---- the lookup stays among the segments
 
 pub segment_inside : (segments : ℕ) (x : SegmentUnits) → 1 ≤ segments → segments ≤ 256 → is_nan x.0 ≡ false
-    → (lookup_says (located segments x)).segment < segments
-unfolding located lookup_says
+    → (located segments x).segment < segments
+unfolding located
 segment_inside n x p h g = go (le x.0 +0) (le (of_count n) x.0) (inside n x.0 (le_trans h (lit≤ tt)) g)
   where
+    at : ℕ → Float → SegmentTau
+    at segment tau = record { segment = segment; tau = record { 0 = tau } }
+
     go : (b c : Bool) → (b ≡ false → c ≡ false → Inside n x.0)
-        → (lookup_says
-        (cond b (At 0 (record { 0 = +0 })) (cond c (At (n - 1) (record { 0 = +1 })) (At (whole_part x.0) (record { 0 = exact_rest x.0 }))))).segment < n
+        → (cond b (at 0 +0) (cond c (at (n - 1) +1) (at (whole_part x.0) (exact_rest x.0)))).segment < n
     go true c i = p
     go false true i = omega arith
     go false false i = whole_below (i refl refl)
