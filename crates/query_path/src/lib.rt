@@ -3,9 +3,12 @@
 #![tactic(auto)]
 
 ghost use Rattle.std.specs.Prelude.{◌≡◌};
-ghost use Rattle.rules.specs.Query.{buffers, Queried, query_of};
+ghost use Rattle.rules.specs.Questions.{number_answered};
+ghost use Rattle.rules.specs.Query.{Queried, query_of};
+ghost use Rattle.query_levels.specs.Lent.{behind, SameBuffers};
 
-use rules::{PathParam, PathRecord};
+use query_levels::Buffers;
+use rules::{PathError, PathParam, PathRecord};
 
 // F7: the record, and the coefficients that it was lent.
 #[derive(Clone, Copy)]
@@ -23,21 +26,14 @@ impl<'a> SplinePath<'a> {
     }
 
     // A1, F7: the query, of this path.
-    pub fn eval_at(
-        self,
-        s: PathParam,
-        level: u8,
-        q: &mut [f64],
-        dq: &mut [f64],
-        ddq: &mut [f64],
-        dddq: &mut [f64],
-    ) -> u32
-        ensures { Queried (query_of self.entry.path self.entry.coeffs.now s level)
-            (buffers q.old dq.old ddq.old dddq.old)
-            result
-            (buffers q.new dq.new ddq.new dddq.new) }
+    pub fn eval_at(self, s: PathParam, level: u8, buffers: &mut Buffers) -> Result<(), PathError>
+        ensures queried { Queried (query_of self.entry.path self.entry.coeffs.now s level)
+            (behind buffers.old)
+            (number_answered result)
+            (behind buffers.new) }
+        ensures same_buffers { SameBuffers buffers.old buffers.new }
     {
-        query::eval_at(self.path, self.coeffs, s, level, q, dq, ddq, dddq)
+        query::eval_at(self.path, self.coeffs, s, level, buffers)
     }
 }
 
@@ -47,15 +43,10 @@ pub fn eval_path(
     coeffs: &[f64],
     s: PathParam,
     level: u8,
-    q: &mut [f64],
-    dq: &mut [f64],
-    ddq: &mut [f64],
-    dddq: &mut [f64],
-) -> u32
-    ensures { Queried (query_of path coeffs.now s level)
-        (buffers q.old dq.old ddq.old dddq.old)
-        result
-        (buffers q.new dq.new ddq.new dddq.new) }
+    buffers: &mut Buffers,
+) -> Result<(), PathError>
+    ensures queried { Queried (query_of path coeffs.now s level) (behind buffers.old) (number_answered result) (behind buffers.new) }
+    ensures same_buffers { SameBuffers buffers.old buffers.new }
 {
-    SplinePath::new(path, coeffs).eval_at(s, level, q, dq, ddq, dddq)
+    SplinePath::new(path, coeffs).eval_at(s, level, buffers)
 }

@@ -2,67 +2,68 @@
 // at lengths alone, so that they can be asked without a buffer.
 #![tactic(auto)]
 
-ghost use Rattle.std.specs.Prelude.{◌≡◌, ◌++◌};
-ghost use Rattle.rules.specs.Questions.{first_no};
-ghost use Rattle.rules.specs.Query.{path_questions, buffer_questions};
+ghost use Rattle.std.specs.Prelude.{◌≡◌, ◌≤◌, ◌++◌, IfOk};
+ghost use Rattle.rules.specs.Questions.{first_no, number_answered};
+ghost use Rattle.rules.specs.Query.{valid_path_range, path_questions, buffer_questions};
+ghost use Rattle.query_levels.specs.Levels.{level_number, lengths};
 
-use query_levels::{valid_lengths, valid_level};
-use rules::PathRecord;
+use query_levels::{Lengths, Level};
+use rules::{PathError, PathRecord};
 
 // Q3: "at most 256"
 const MOST_SEGMENTS: usize = 256;
 
-// Q4: "axes 1 to 8"
-const MOST_AXES: usize = 8;
+// Q5, Q6: the range, and its quotient.
+fn valid_path_range(path: PathRecord) -> bool
+    requires { path.segments ≤ 256 }
+    ensures { result ≡ valid_path_range path }
+{
+    questions::valid_range(path.segments, path.s_min, path.s_max)
+        && path.inv_ds == questions::inv_ds(path.segments, path.s_min, path.s_max)
+}
 
-// G4: the number of the first no, and 0 where all but the last question say yes.
+// Q1 to Q7: about a path with so many coefficients. The first no is the refusal.
+#[tactic(auto, unfolding(rules::specs::Questions::first_no, rules::specs::Query::path_questions))]
+fn path_questions(path: PathRecord, cells: usize) -> Result<(), PathError>
+    ensures { number_answered result ≡ first_no (path_questions path cells) }
+{
+    if !questions::valid_order(path.order) {
+        return Err(PathError::InvalidOrder); // Q1
+    }
+    if path.segments < 1 {
+        return Err(PathError::NotEnoughWaypoints); // Q2
+    }
+    if MOST_SEGMENTS < path.segments {
+        return Err(PathError::InvalidLength); // Q3
+    }
+    if !questions::valid_axes(path.axes) {
+        return Err(PathError::InvalidDimension); // Q4
+    }
+    if !valid_path_range(path) {
+        return Err(PathError::InvalidRange); // Q5, Q6
+    }
+    if cells != path.axes * path.segments * (path.order + 1) {
+        return Err(PathError::DimensionMismatch); // Q7
+    }
+    Ok(())
+}
+
+// G4: the first no is the refusal; where all but the last question say yes, the level is handed on.
+#[tactic(auto, unfolding(rules::specs::Questions::first_no, rules::specs::Query::buffer_questions))]
 pub fn query_questions(
     path: PathRecord,
     cells: usize,
     level: u8,
-    q: usize,
-    dq: usize,
-    ddq: usize,
-    dddq: usize,
-) -> u32
-    ensures { result
-        ≡ first_no (path_questions path cells ++ buffer_questions path.axes level (record { q = q; dq = dq; ddq = ddq; dddq = dddq })) }
+    n: Lengths,
+) -> Result<Level, PathError>
+    ensures number { number_answered result
+        ≡ first_no (path_questions path cells ++ buffer_questions path.axes level (lengths n)) }
+    ensures level { IfOk result (λ known. level_number known ≡ level) }
 {
-    let order = path.order;
-    let segments = path.segments;
-    let axes = path.axes;
-    let inv = path.inv_ds;
-    let s_min = path.s_min;
-    let s_max = path.s_max;
-    if !questions::valid_order(order) {
-        return 302; // Q1
+    path_questions(path, cells)?;
+    let known = Level::try_from(level)?; // Q8
+    if !n.valid(path.axes, known) {
+        return Err(PathError::InvalidLength); // Q9
     }
-    if segments < 1 {
-        return 304; // Q2
-    }
-    if MOST_SEGMENTS < segments {
-        return 2; // Q3
-    }
-    if axes < 1 {
-        return 300; // Q4: too few
-    }
-    if MOST_AXES < axes {
-        return 300; // Q4: too many
-    }
-    if !questions::valid_range(segments, s_min, s_max) {
-        return 301; // Q5
-    }
-    if inv != questions::inv_ds(segments, s_min, s_max) {
-        return 301; // Q6: not the range's quotient
-    }
-    if cells != axes * segments * (order + 1) {
-        return 303; // Q7
-    }
-    if !valid_level(level) {
-        return 308; // Q8
-    }
-    if !valid_lengths(axes, level, q, dq, ddq, dddq) {
-        return 2; // Q9
-    }
-    0 // every question but the last says yes
+    Ok(known)
 }
