@@ -25,7 +25,8 @@ fn general(level: Level, a: &[f64], t: f64) -> Derivatives
 }
 
 // R26, R27: a segment's coefficients at t, by its order. The general loop is called with each level as a constant, so
-// that the compiler makes one for each, and nothing is asked inside.
+// that the compiler makes one for each, and nothing is asked inside. (An order is a number, as the path record has it: an enum
+// would be made of it at each call.)
 #[tactic(auto, unfolding(rules::specs::Build::valid_order, rules::specs::Query::eval_poly))]
 pub fn eval_poly(order: usize, level: Level, a: &[f64], t: f64) -> Derivatives
     requires { T (valid_order order) × (length a.now ≡ order + 1) }
