@@ -5,7 +5,8 @@ use mathlib.Core.List.{List}
 use Prim.Native.Nat.{ℕ}
 use lib.IntN.{ℤ}
 use borrow.Author.Tests.{not-true, not-false}
-use Rattle.rules.specs.declared.MasterAnswer.TheVariants.{Refused}
+use Rattle.std.specs.Prelude.{Err}
+use Rattle.rules.specs.declared.PathError.TheVariants.{InvalidArgument}
 use Rattle.law_lists.specs.Lists.{all}
 use Rattle.rules.specs.Master.{MasterSays, within, master_says}
 use Rattle.master_equations.specs.Segment.{segment_meets}
@@ -13,7 +14,7 @@ use Rattle.master_segments.specs.Answer.{segment_part, segment_says}
 
 module _ (before : Bool) (m : ℕ) (w end table : List ℤ) (i : ℕ) where
   -- a number out of range
-  pub segment_out : all within (segment_part m table i) ≡ false → segment_says before m w end table i ≡ master_says (Refused 4)
+  pub segment_out : all within (segment_part m table i) ≡ false → segment_says before m w end table i ≡ master_says (Err InvalidArgument)
   unfolding segment_says master_says
   segment_out e = rw e
 
