@@ -5,7 +5,7 @@ use mathlib.Core.Bool.{Bool, true, false, not, cond, ◌&&◌}
 use mathlib.Core.List.{List, [], ◌∷◌, ◌++◌}
 use mathlib.Core.Logic.{◌⊎◌, inl, inr}
 use Prim.Native.Nat.{ℕ, suc, ◌+◌, ◌-◌, ◌*◌, ◌<◌, ◌≤◌}
-use native.Mathlib.Nat.{eq-or-lt_of_le}
+use native.Mathlib.Nat.{eq-or-lt_of_le, zero-mul}
 use native.Mathlib.Omega.{arith}
 use lib.Dec.{T, eqb, eqb→eq, leb→le, lit≤}
 use lib.IntN.{ℤ}
@@ -13,21 +13,25 @@ use lib.ListN.{length, drop}
 use lib.Seq.{drop-drop}
 use lib.Ieee.Fits.{and_i, and_l, and_r}
 use borrow.Author.Tests.{eq-eqb, ne_eqb}
-use Rattle.rules.specs.declared.MasterAnswer.TheVariants.{Refused}
+use Rattle.std.specs.Prelude.{Result, Ok, Err, IsErrAnd}
+use Rattle.std.proofs.lemmas.Result.{err_from_is_err_and}
+use Rattle.rules.specs.declared.PathError.{PathError}
+use Rattle.rules.specs.declared.PathError.TheVariants.{InvalidArgument}
 use Rattle.law_lists.specs.Lists.{all, every}
-use Rattle.rules.specs.Questions.{Question, ask, first_no}
+use Rattle.rules.specs.Questions.{Question, ask, first_no, number_of}
 use Rattle.rules.specs.Tables.{m_of}
 use Rattle.rules.specs.Master.{MasterSet, Equations, within, same, at, coefficient, at_end, segments, meets_start}
 use Rattle.rules.specs.Master.{MasterSays, master_questions, size_questions, length_questions, number_questions, master_number, master_says}
 use Rattle.rules.specs.Master.{endpoint_equations, joint_equations, check_master}
-use Rattle.law_rounding.proofs.Sums.{same_test}
-use Rattle.law_lists.proofs.Lists.{every_at, every_of, all_split, all_none_left}
+use Rattle.law_rounding.proofs.Sums.{same_test, and_true}
+use Rattle.law_lists.proofs.Lists.{every_at, every_of, every_more, and_assoc, all_split, all_none_left}
 use Rattle.law_lists.proofs.Places.{next_part}
 use Rattle.rules.proofs.Build.{by_order, coefficient_count}
-use Rattle.rules.proofs.Questions.{numbered, never, answer_at, said_yes}
+use Rattle.rules.proofs.Questions.{numbered, never, answer_at, said_yes, number-not_zero}
 use Rattle.rules.proofs.Master.{same→eq, eq→same, to_equations, of_equations}
 use Rattle.master_equations.specs.Segment.{Shaped, segment_meets}
-use Rattle.master_segments.specs.Answer.{segment_part}
+use Rattle.master_segments.specs.Answer.{segment_part, segment_says}
+use Rattle.master_segments.proofs.SegmentSays.{segment_out, was_out, was_within, was_good}
 use Rattle.master_questions.specs.Asked.{questions_before}
 use Rattle.master.specs.Pass.{meets_up_to, pass_says}
 
@@ -163,15 +167,73 @@ none_left {m} {w} {end} {table} h {i} l k = all_none_left within table (i * (2 *
     e : length table ≡ i * (2 * m + 2)
     e = h.table_is ∙ ap (λ (n : ℕ). n * (2 * m + 2)) (omega arith)
 
+-- ---- the loop
+
+-- the invariant: of the segments behind it all numbers are within ±2^40, and `good` says whether their equations hold, the start state's with them
+pub record Passed (m : ℕ) (w start end table : List ℤ) (good : Bool) (i : ℕ) : Type 0 where
+  pub met : good ≡ meets_up_to m w start end table i
+  pub left : all within table ≡ all within (drop (i * (2 * m + 2)) table)
+
+-- no segment yet, and one more
+pub no_segment : (m : ℕ) (w start end table : List ℤ) {good : Bool} → good ≡ meets_start m (length w - 1) table start → Passed m w start end table good 0
+unfolding meets_up_to every
+no_segment m w start end table e =
+    record { met = e ∙ sym (and_true (meets_start m (length w - 1) table start)); left = rw zero-mul refl }
+
+one_more : (m : ℕ) (w start end table : List ℤ) (i : ℕ) {good good' : Bool} → Passed m w start end table good i
+    → all within (segment_part m table i) ≡ true → good' ≡ (good && segment_meets m w end table i)
+    → Passed m w start end table good' (i + 1)
+unfolding meets_up_to
+one_more m w start end table i p fit e =
+    let starts = meets_start m (length w - 1) table start in
+    let f = segment_meets m w end table in
+    record {
+      met = e ∙ ap (λ (b : Bool). b && f i) p.met ∙ and_assoc starts (every i f) (f i) ∙ ap (λ (b : Bool). starts && b) (sym (every_more f i _ refl));
+      left = p.left ∙ left_next m table i fit;
+    }
+
+-- a number out of range refuses
+out_of_range : (m : ℕ) (w start end table : List ℤ) (i : ℕ) {good : Bool} → Passed m w start end table good i
+    → all within (segment_part m table i) ≡ false → master_says (Err InvalidArgument) ≡ pass_says m w start end table
+unfolding pass_says master_says
+out_of_range m w start end table i p out =
+    let e : all within table ≡ false = p.left ∙ left_next m table i out in
+    rw e refl
+
+-- a segment's refusal is handed on
+pub pass_refused : (m : ℕ) (w start end table : List ℤ) (i : ℕ) (good : Bool) (e : PathError) (r : Result Bool PathError)
+    → Passed m w start end table good i → IsErrAnd r (λ y. y ≡ e) → master_says (Err e) ≡ segment_says good m w end table i
+    → master_says r ≡ pass_says m w start end table
+unfolding master_says
+pass_refused m w start end table i good e r p is h =
+    let out : all within (segment_part m table i) ≡ false = was_out good m w end table i h refl in
+    let q = err_from_is_err_and r is in
+    rw (q.1, q.2) (h ∙ segment_out good m w end table i out ∙ out_of_range m w start end table i p out)
+
+-- a segment's answer is gone on with
+pub pass_goes_on : (m : ℕ) (w start end table : List ℤ) (i : ℕ) {good good' : Bool} → Passed m w start end table good i
+    → master_says (Ok good') ≡ segment_says good m w end table i → Passed m w start end table good' (i + 1)
+unfolding master_says
+pass_goes_on m w start end table i {good} p h =
+    one_more m w start end table i p (was_within good m w end table i h refl) (was_good good m w end table i h refl)
+
+-- behind the loop every number is in range, and `good` is the answer
+pub all_passed : {m : ℕ} {w start end table : List ℤ} {good : Bool} → Shaped m w end table → Passed m w start end table good (length w - 1)
+    → master_says (Ok good) ≡ pass_says m w start end table
+unfolding pass_says master_says
+all_passed {m} {w} {start} {end} {table} {good} s p =
+    rw (p.left ∙ none_left s (omega arith) (omega arith), ← p.met) refl
+
 -- ---- the answer
 
 -- a no of those questions is the check's refusal
-pub refused : (s : MasterSet) {n : ℕ} → n ≡ first_no (questions_before s) → (n ≡ 0 → ⊥) → master_says (Refused n) ≡ check_master s
+pub refused : (s : MasterSet) (e : PathError) (r : Result Bool PathError) → IsErrAnd r (λ y. y ≡ e) → number_of e ≡ first_no (questions_before s)
+    → master_says r ≡ check_master s
 unfolding master_says check_master
-refused s {n} e h = rw (number_is s, ← e, ne_eqb n 0 h, ne_eqb n 0 h)
+refused s e r is h = let p = err_from_is_err_and r is in rw (p.1, p.2, number_is s, ← h, number-not_zero e, number-not_zero e) refl
 
 -- and else the pass's answer is the check's
-pub passed : (s : MasterSet) → first_no (questions_before s) ≡ 0 → pass_says (m_of s.order) s.waypoints s.start s.end s.table ≡ check_master s
+passed : (s : MasterSet) → first_no (questions_before s) ≡ 0 → pass_says (m_of s.order) s.waypoints s.start s.end s.table ≡ check_master s
 unfolding pass_says check_master
 passed s e = rw (number_is s, e, met_is s (shaped s e).0.least) (answer (all within s.table) (endpoint_equations s) (joint_equations s))
   where
@@ -179,3 +241,21 @@ passed s e = rw (number_is s, e, met_is s (shaped s e).0.least) (answer (all wit
         (record { refused = not (eqb (cond t 0 4) 0); number = cond t 0 4; good = eqb (cond t 0 4) 0 && a && b })
     answer true a b = refl
     answer false a b = refl
+
+-- ---- an order's m
+
+-- what the pass of an order is lent, and its answer
+pub shaped_as : (s : MasterSet) {m : ℕ} → first_no (questions_before s) ≡ 0 → m_of s.order ≡ m
+    → Shaped m s.waypoints s.end s.table × (length s.start ≡ m)
+shaped_as s e h = subst (λ (m : ℕ). Shaped m s.waypoints s.end s.table × (length s.start ≡ m)) h (shaped s e)
+
+pub passed_as : (s : MasterSet) {m : ℕ} → first_no (questions_before s) ≡ 0 → m_of s.order ≡ m
+    → pass_says m s.waypoints s.start s.end s.table ≡ check_master s
+passed_as s e h = subst (λ (m : ℕ). pass_says m s.waypoints s.start s.end s.table ≡ check_master s) h (passed s e)
+
+-- neither 3 nor 5
+pub seven : (s : MasterSet) → first_no (questions_before s) ≡ 0 → (s.order ≡ 3 → ⊥) → (s.order ≡ 5 → ⊥) → m_of s.order ≡ 3
+unfolding questions_before size_questions length_questions
+seven s e n k =
+    by_order (λ (order : ℕ). (order ≡ 3 → ⊥) → (order ≡ 5 → ⊥) → m_of order ≡ 3) (λ n k. absurd (n refl)) (λ n k. absurd (k refl)) (λ n k. refl) s.order
+    (said_yes (questions_before s) tt e 0) n k

@@ -7,60 +7,28 @@ ghost use Rattle.rules.specs.Master.{set_of, check_master, master_says};
 ghost use Rattle.master_equations.specs.Segment.{Shaped};
 ghost use Rattle.master.specs.Pass.{pass_says};
 
-use master_equations::meets_start;
+use master_equations::{MasterSegments, meets_start};
+use master_questions::lists::MasterLists;
 use master_questions::master_questions;
 use master_segments::check_segment;
-use rules::MasterAnswer;
-
-// A1, M8: whether an answer is yes.
-pub fn is_yes(answer: MasterAnswer) -> bool
-    ensures { result ≡ (master_says answer).good }
-{
-    match answer {
-        MasterAnswer::Yes => true,
-        MasterAnswer::No => false,
-        MasterAnswer::Refused(_) => false,
-    }
-}
-
-// M8: whether an answer is a refusal.
-pub fn is_refused(answer: MasterAnswer) -> bool
-    ensures { result ≡ (master_says answer).refused }
-{
-    match answer {
-        MasterAnswer::Yes => false,
-        MasterAnswer::No => false,
-        MasterAnswer::Refused(_) => true,
-    }
-}
+use rules::PathError;
 
 // The pass over the table. A number out of range is a refusal wherever it stands, so a segment that does not
 // meet its equations does not end the pass.
-fn check_segments(
-    m: usize,
-    waypoints: &[i64],
-    start: &[i64],
-    end: &[i64],
-    table: &[i64],
-) -> MasterAnswer
-    requires { Shaped m waypoints.now end.now table.now × (length start.now ≡ m) }
-    ensures { master_says result ≡ pass_says m waypoints.now start.now end.now table.now }
+fn check_segments<const M: usize>(lists: MasterLists) -> Result<bool, PathError>
+    requires { Shaped M lists.waypoints.now lists.end.now lists.table.now × (length lists.start.now ≡ M) }
+    ensures { let l = lists.entry in master_says result ≡ pass_says M l.waypoints.now l.start.now l.end.now l.table.now }
 {
-    let segments = waypoints.len() - 1;
-    let mut good = meets_start(m, start, table);
-    let mut i = 0;
-    while i < segments {
-        let answer = check_segment(good, m, waypoints, end, table, i);
-        if is_refused(answer) {
-            return answer;
-        }
-        good = is_yes(answer);
-        i += 1;
+    let segments = MasterSegments::<M> {
+        waypoints: lists.waypoints,
+        end: lists.end,
+        table: lists.table,
+    };
+    let mut good = meets_start::<M>(lists.start, lists.table);
+    for i in 0..lists.waypoints.len() - 1 {
+        good = check_segment(good, segments, i)?;
     }
-    if good {
-        return MasterAnswer::Yes;
-    }
-    MasterAnswer::No
+    Ok(good)
 }
 
 // A1, D1, M8, M9, M10: the check. It reads what it is given and writes nothing.
@@ -70,12 +38,19 @@ pub fn check_master(
     start: &[i64],
     end: &[i64],
     table: &[i64],
-) -> MasterAnswer
+) -> Result<bool, PathError>
     ensures { master_says result ≡ check_master (set_of order waypoints.now start.now end.now table.now) }
 {
-    let number = master_questions(order, waypoints, start, end, table);
-    if number != 0 {
-        return MasterAnswer::Refused(number);
+    let lists = MasterLists {
+        waypoints,
+        start,
+        end,
+        table,
+    };
+    master_questions(order, lists)?;
+    match order {
+        3 => check_segments::<1>(lists),
+        5 => check_segments::<2>(lists),
+        _ => check_segments::<3>(lists),
     }
-    check_segments((order - 1) / 2, waypoints, start, end, table)
 }

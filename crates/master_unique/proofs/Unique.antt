@@ -10,8 +10,8 @@ use lib.Dec.{T}
 use lib.IntN.{ℤ, pos}
 use lib.ListN.{length}
 use lib.Seq.{ext_get_or}
-use Rattle.rules.specs.declared.MasterAnswer.{MasterAnswer}
-use Rattle.rules.specs.declared.MasterAnswer.TheVariants.{Yes}
+use Rattle.std.specs.Prelude.{Bool, true, Result, Ok}
+use Rattle.rules.specs.declared.PathError.{PathError}
 use Rattle.rules.specs.Tables.{m_of}
 use Rattle.rules.specs.Master.{MasterSet, MasterSays, set_of, at, coefficient, at_end, check_master, master_says}
 use Rattle.theorem_exact.specs.Exact.{axis_set}
@@ -73,7 +73,7 @@ masters_are_unique s t e y y' =
 
 -- ---- of two calls
 
-answered_yes : (s : MasterSet) (answer : MasterAnswer) → master_says answer ≡ check_master s → answer ≡ Yes → T (check_master s).good
+answered_yes : (s : MasterSet) (answer : Result Bool PathError) → master_says answer ≡ check_master s → answer ≡ Ok true → T (check_master s).good
 unfolding master_says
 answered_yes s answer e y = subst (λ (says : MasterSays). T says.good) (sym (ap master_says y) ∙ e) tt
 

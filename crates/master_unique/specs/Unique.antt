@@ -3,9 +3,8 @@
 -- end states are all equal." And document 01: "Two tables, two waypoint lists or two states are equal when they have the same length and the same
 -- number at every place", which is what `≡` of two lists is. Proved by `masters_are_unique`, `two_calls_that_said_yes` and
 -- `two_point_masters_are_built` of proofs/Unique.antt. Assumes nothing.
-use Rattle.std.specs.Prelude.{◌≡◌, ◌↔◌, List, ℕ, ◌<◌, T, ℤ}
-use Rattle.rules.specs.declared.MasterAnswer.{MasterAnswer}
-use Rattle.rules.specs.declared.MasterAnswer.TheVariants.{Yes}
+use Rattle.std.specs.Prelude.{◌≡◌, ◌↔◌, Bool, true, List, ℕ, ◌<◌, T, ℤ, Result, Ok}
+use Rattle.rules.specs.declared.PathError.{PathError}
 use Rattle.law_lists.specs.Lists.{all}
 use Rattle.rules.specs.Build.{BuildInput, build_number}
 use Rattle.rules.specs.Master.{MasterSet, set_of, within, check_master, master_says}
@@ -17,14 +16,14 @@ MastersAreUnique =
     (s t : MasterSet) → s.order ≡ t.order → T (check_master s).good → T (check_master t).good
     → (s.table ≡ t.table) ↔ ((s.waypoints ≡ t.waypoints) × (s.start ≡ t.start) × (s.end ≡ t.end))
 
--- The same of any two calls of the same order that answered Yes: what the contract of `check_master` promises of an answer is
+-- The same of any two calls of the same order that answered yes: what the contract of `check_master` promises of an answer is
 -- `master_says answer ≡ check_master set`.
 unfoldable pub TwoCallsThatSaidYes : Type 0
 TwoCallsThatSaidYes =
-    (order : ℕ) (waypoints waypoints' start start' end end' table table' : List ℤ) (answer answer' : MasterAnswer)
+    (order : ℕ) (waypoints waypoints' start start' end end' table table' : List ℤ) (answer answer' : Result Bool PathError)
     → master_says answer ≡ check_master (set_of order waypoints start end table)
     → master_says answer' ≡ check_master (set_of order waypoints' start' end' table')
-    → answer ≡ Yes → answer' ≡ Yes
+    → answer ≡ Ok true → answer' ≡ Ok true
     → (table ≡ table') ↔ ((waypoints ≡ waypoints') × (start ≡ start') × (end ≡ end'))
 
 -- The link to the build. By `TwoPointsAreExact` (crates/theorem_exact/specs/Exact.antt) the check says yes to what an accepted two-point build of
