@@ -42,7 +42,7 @@ returns-in_err-first c =
     let s = set_with c.args.order c.args.one in
     let t = set_with c.args.order c.args.other in
     let q : master_says c.from_residual.result ≡ check_both s t =
-        first_refused s t _ c.from_residual.result c.from_residual.ensures.1 c.in_err-first.ensures in
+    first_refused s t _ c.from_residual.result c.from_residual.ensures.1 c.in_err-first.ensures in
     record { result_value = q; variant = promised s t refl c.from_residual.result q }
 
 pub returns-in_err-second : goal.returns-in_err-second
@@ -50,7 +50,7 @@ returns-in_err-second c =
     let s = set_with c.args.order c.args.one in
     let t = set_with c.args.order c.args.other in
     let q : master_says c.from_residual-in_err-second.result ≡ check_both s t =
-        second_refused s t _ _ c.from_residual-in_err-second.result c.from_residual-in_err-second.ensures.1 c.in_ok-first.ensures c.in_err-second.ensures in
+    second_refused s t _ _ c.from_residual-in_err-second.result c.from_residual-in_err-second.ensures.1 c.in_ok-first.ensures c.in_err-second.ensures in
     record { result_value = q; variant = promised s t refl c.from_residual-in_err-second.result q }
 
 pub returns : goal.returns
