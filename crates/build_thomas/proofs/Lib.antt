@@ -1,2 +1,1 @@
 pub mod AxisIs
-pub mod Sizes
