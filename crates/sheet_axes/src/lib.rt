@@ -20,7 +20,8 @@ pub struct AxesRead {
 // J20: "1 to 8 axes"
 const MOST_AXES: usize = 8;
 
-// J1, J20: the axes, 8 at the most, to the end of the text.
+// J1, J20: the axes, 8 at the most, to the end of the text. (Each is lent its part of each of the three buffers: iterators over their
+// parts would have to be zipped, and do not say how long a buffer is.)
 pub fn read_axes(
     text: &[u8],
     from: usize,

@@ -19,7 +19,8 @@ pub struct HeadingNumbers {
     pub to: i64,
 }
 
-// Fixed bytes, and then a number.
+// Fixed bytes, and then a number. (The same of a list is `led` of crates/sheet_axis: one function for both would take the second
+// reading as a closure, and be no shorter than the two.)
 fn led_number(text: &[u8], from: usize, w: &[u8]) -> Result<Read<i64>, SheetError>
     requires { from ≤ length text.now }
     ensures { NumberSays (led_number w.now) w.now (bytes "") text.now from result }

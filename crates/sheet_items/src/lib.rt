@@ -47,7 +47,8 @@ fn open_item(text: &[u8], from: usize, depth: usize) -> Result<Opening, SheetErr
     Ok(Opening::Again(heading))
 }
 
-// A number as an item.
+// A number as an item. (A buffer and the place up to which it is written stay two parameters, here and below: the list routine keeps
+// the place alone, and lends the buffer on.)
 fn number_item(
     text: &[u8],
     from: usize,

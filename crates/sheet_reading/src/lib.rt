@@ -7,7 +7,8 @@ ghost use Rattle.sheet_reading.specs.Says.{invalid_at};
 
 use rules::{PathError, SheetError};
 
-// What was read, and the place after it.
+// What was read, and the place after it. (A routine takes the whole text and a place, and not the rest of the text, since a refusal
+// tells its place as counted from the text's first byte.)
 #[derive(Clone, Copy)]
 pub struct Read<T> {
     pub value: T,

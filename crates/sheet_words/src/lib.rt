@@ -8,7 +8,8 @@ ghost use Rattle.sheet_words.specs.Says.{passed_of, PassedInside};
 use rules::SheetError;
 use sheet_reading::invalid_sheet;
 
-// J1, J2: fixed bytes, and the place after them. The refusal is at the first byte that is another, or at the end of the text.
+// J1, J2: fixed bytes, and the place after them. The refusal is at the first byte that is another, or at the end of the text. (So they
+// are compared one by one: a comparison of slices does not tell which byte is another.)
 pub fn word(text: &[u8], from: usize, w: &[u8]) -> Result<usize, SheetError>
     requires { from ≤ length text.now }
     ensures says { passed_of text.now result ≡ reading.word w.now (drop from text.now) }
