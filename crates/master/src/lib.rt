@@ -31,7 +31,7 @@ fn check_segments<const M: usize>(lists: MasterLists) -> Result<bool, PathError>
     Ok(good)
 }
 
-// A1, D1, M8, M9, M10: the check. It reads what it is given and writes nothing.
+// A1, D1, M8, M9, M10: the check. It reads what it is given and writes nothing. The four lists stand apart, as in C.
 pub fn check_master(
     order: usize,
     waypoints: &[i64],

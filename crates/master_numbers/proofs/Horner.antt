@@ -191,9 +191,6 @@ module _ {first last : ℕ} {b₀ : List ℤ} {k : ℕ} {b : List ℤ} (s : Addi
           (get_or-set_same b (k - 1) z (pos 0) (omega (arith, s.most, s.size, inside)) ∙ e)
       place j g (inr q) = get_or-set_other b (k - 1) j z (pos 0) (λ p. omega arith) ∙ s.added j (omega arith) g
 
-pub all_added : {first last : ℕ} {b₀ : List ℤ} {k : ℕ} {b : List ℤ} → Adding first last b₀ k b → k ≤ first → AddedUp first last b₀ b
-all_added s h = let l = s.least in record { below = λ j g. s.below j (omega arith); added = λ j g q. s.added j (omega arith) q }
-
 -- ---- the loop over the first places
 
 -- the invariant: r times were done, to the places 0 to r - 1

@@ -6,7 +6,7 @@ ghost use Rattle.std.specs.Prelude.{◌≡◌, ℕ, ◌+◌, ◌*◌, ◌^◌, �
 ghost use Rattle.rules.specs.Master.{at, coefficient, at_end};
 ghost use Rattle.master_numbers.specs.Sums.{Summable, AddedUp, sum_from};
 
-// The coefficients of segment i, in an array with room for order 7.
+// The coefficients of segment i, in an array with room for order 7: an array's size is not worked out from m.
 fn coefficients<const M: usize>(table: &[i64], i: usize) -> [i64; 8]
     requires { (M ≤ 3) × (i ≤ 255) × (i * (2 * M + 2) + (2 * M + 2) ≤ length table.now) }
     ensures { (length result ≡ 8) × ((k : ℕ) → k < 2 * M + 2 → at result k ≡ coefficient M table.now i k) }

@@ -1,6 +1,6 @@
 -- A segment's part of the table: where it lies, and what its range says of its coefficients. Assumes nothing.
-use mathlib.Core.Path.{◌≡◌, sym, ◌∙◌, subst}
-use mathlib.Core.Bool.{true}
+use mathlib.Core.Path.{◌≡◌, sym, ap, ◌∙◌, subst}
+use mathlib.Core.Bool.{Bool, true}
 use mathlib.Core.List.{List}
 use Prim.Native.Nat.{ℕ, ◌+◌, ◌-◌, ◌*◌, ◌<◌, ◌≤◌}
 use native.Mathlib.Omega.{arith}
@@ -16,10 +16,11 @@ use Rattle.master_numbers.specs.Sums.{Summable}
 use Rattle.master_equations.specs.Segment.{Shaped}
 use Rattle.master_segments.specs.Answer.{segment_part}
 
--- segment i's part of the table, as the code lends it
-pub as_lent : (m : ℕ) (table : List ℤ) (i : ℕ) → (let at = i * (2 * m + 2) in take (at + (2 * m + 2) - at) (drop at table)) ≡ segment_part m table i
+-- what was answered of segment i's part of the table, as the code lends it
+pub fit : (m : ℕ) (table : List ℤ) (i : ℕ) {b : Bool}
+    → (let at = i * (2 * m + 2) in b ≡ all within (take (at + (2 * m + 2) - at) (drop at table))) → all within (segment_part m table i) ≡ b
 unfolding segment_part
-as_lent m table i = part_size (i * (2 * m + 2)) (2 * m + 2) table
+fit m table i e = sym (e ∙ ap (all within) (part_size (i * (2 * m + 2)) (2 * m + 2) table))
 
 module _ {m : ℕ} {w end table : List ℤ} (s : Shaped m w end table) {i : ℕ} (l : i < length w - 1) where
   pub segment_inside : i * (2 * m + 2) + (2 * m + 2) ≤ length table
