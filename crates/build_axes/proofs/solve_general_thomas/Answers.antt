@@ -1,5 +1,5 @@
 -- The matrices that differ are factored, which are those of all nodes.
-use Rattle.std.proofs.Common.{◌≡◌, ◌≤◌, arith}
+use Rattle.std.proofs.Common.{◌≡◌, ◌≤◌}
 use Rattle.theorem_pivots.specs.Repeating.{distinct}
 use Rattle.build_nodes.specs.NodeLists.{Room}
 use Rattle.build_sweeps.proofs.AllNodes.{room_for, node_factors_lem, node_solved_lem}
