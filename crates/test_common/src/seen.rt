@@ -1,5 +1,4 @@
 // What was seen: expected answers are read and compared with what a call gave, and counted.
-use rules::PathError;
 use std::io;
 use std::io::Read;
 use test_input::bits;
@@ -12,14 +11,6 @@ pub struct Seen {
     pub calls: u64,
     pub numbers: u64,
     pub unlike: u64,
-}
-
-// The number that an answer stands for: 0 where the call is served.
-pub fn number<T: Copy>(answer: Result<T, PathError>) -> u32 {
-    match answer {
-        Ok(_) => 0,
-        Err(error) => u32::from(error),
-    }
 }
 
 // What the cells of a buffer hold before a call: no two are alike, and none is likely to be written.

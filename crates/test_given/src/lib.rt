@@ -4,9 +4,9 @@
 
 use rules::{
     BoundaryState, OutOfRangeMode, PathError, PathParam, PathRecord, SplineConfig, SplineInput,
+    number_answered,
 };
 use std::io::Read;
-use test_common::seen;
 use test_common::seen::Trial;
 use test_input::read::Input;
 
@@ -97,15 +97,12 @@ const NO_PATH: PathRecord = PathRecord {
 // A call more, its number and its record.
 pub fn answered<R: Read + Drop>(trial: &mut Trial<R>, answer: Result<PathRecord, PathError>) {
     let path = answer.unwrap_or(NO_PATH);
-    trial.answered(seen::number(answer));
+    trial.answered(number_answered(answer));
     trial.whole(path.order);
     trial.whole(path.segments);
     trial.whole(path.axes);
     trial.float(path.s_min.0);
     trial.float(path.s_max.0);
     trial.float(path.inv_ds);
-    trial.whole(match path.mode {
-        OutOfRangeMode::Error => 0,
-        OutOfRangeMode::Clamp => 1,
-    });
+    trial.whole(path.mode as usize);
 }

@@ -4,7 +4,7 @@
 // bits. A list of floats has 16 such digits for each, and behind it one character more, a space or a line's end; a small
 // number has 3 decimal digits, and one character more; an integer has 20 characters, its decimal digits at the right end
 // with the minus before them, and one character more.
-ghost use Rattle.std.specs.Prelude.{◌≤◌, length};
+ghost use Rattle.std.specs.Prelude.{◌≤◌, ◌<◌, length};
 
 use crate::bits;
 use rules::OutOfRangeMode;
@@ -98,18 +98,24 @@ impl<R: Read + Drop> Input<R> {
         Name { text, length }
     }
 
+    // A line of so many characters, its end among them: the number whose digits stand in it from a place on.
+    fn digits<const WIDTH: usize, const RADIX: u64>(&mut self, from: usize) -> Number
+        requires { (from < WIDTH) × (WIDTH < 100) }
+    {
+        let mut line = [0; WIDTH];
+        full(&mut self.reader, &mut line);
+        let line = &line[..];
+        Number::of::<RADIX>(&line[from..WIDTH - 1])
+    }
+
     // A field with a whole number.
     pub fn count(&mut self) -> usize {
-        let mut line = [0; 34];
-        full(&mut self.reader, &mut line);
-        Number::of::<10>(&line[13..33]).magnitude as usize
+        self.digits::<34, 10>(13).magnitude as usize
     }
 
     // A field with a float.
     pub fn float(&mut self) -> f64 {
-        let mut line = [0; 34];
-        full(&mut self.reader, &mut line);
-        bits::float(Number::of::<16>(&line[17..33]).magnitude)
+        bits::float(self.digits::<34, 16>(17).magnitude)
     }
 
     // A field with a mode: 0 Error, 1 Clamp.
@@ -123,32 +129,22 @@ impl<R: Read + Drop> Input<R> {
 
     // The next float of a list.
     pub fn cell(&mut self) -> f64 {
-        let mut line = [0; 17];
-        full(&mut self.reader, &mut line);
-        bits::float(Number::of::<16>(&line[0..16]).magnitude)
+        bits::float(self.digits::<17, 16>(0).magnitude)
     }
 
     // A small number.
     pub fn small(&mut self) -> usize {
-        let mut line = [0; 4];
-        full(&mut self.reader, &mut line);
-        Number::of::<10>(&line[0..3]).magnitude as usize
-    }
-
-    fn next_integer(&mut self) -> Number {
-        let mut line = [0; 21];
-        full(&mut self.reader, &mut line);
-        Number::of::<10>(&line[0..20])
+        self.digits::<4, 10>(0).magnitude as usize
     }
 
     // The next integer of a list.
     pub fn integer(&mut self) -> i64 {
-        self.next_integer().signed()
+        self.digits::<21, 10>(0).signed()
     }
 
     // The same where it is not below 0.
     pub fn natural(&mut self) -> usize {
-        self.next_integer().magnitude as usize
+        self.digits::<21, 10>(0).magnitude as usize
     }
 
     // So many items of a list, each read by `next`, put at the start of another.

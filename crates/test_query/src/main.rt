@@ -8,9 +8,10 @@ ghost use Rattle.std.specs.Prelude.{◌≡◌, length};
 mod table;
 
 use query_levels::Buffers;
-use rules::{PathError, PathParam, PathRecord};
+use rules::{PathError, PathParam, PathRecord, number_answered};
 use std::io;
 use std::io::Read;
+use table::Kind;
 use test_common::seen;
 use test_common::seen::{Trial, replay};
 use test_input::read::Input;
@@ -134,7 +135,7 @@ fn call<R: Read + Drop>(trial: &mut Trial<R>, path: PathRecord, coeffs: &[f64]) 
         ddq: &mut ddq[8..8 + query.lent.ddq.min(16)],
         dddq: &mut dddq[8..8 + query.lent.dddq.min(16)],
     };
-    let number = seen::number(asked(query, path, coeffs, &mut buffers));
+    let number = number_answered(asked(query, path, coeffs, &mut buffers));
     judged(trial, query, number, &q, &dq, &ddq, &dddq);
 }
 
@@ -142,7 +143,7 @@ fn call<R: Read + Drop>(trial: &mut Trial<R>, path: PathRecord, coeffs: &[f64]) 
 fn along<R: Read + Drop>(trial: &mut Trial<R>) {
     let path = next_path(&mut trial.input);
     let n = trial.input.count().min(16400);
-    let kind = trial.input.count();
+    let kind = Kind::from(trial.input.count());
     let seed = trial.input.count();
     let mut table = [0.0; 16400];
     table::fill(&mut trial.input, &mut table[0..n], kind, seed);

@@ -13,17 +13,44 @@ fn next(x: u64) -> u64
     x % 0x7fff_ffff * 48271 % 0x7fff_ffff
 }
 
-// Kind 0 has magnitudes of 1/16 to 16, kind 1 of 2^-32 to 2^31, and kind 2 any exponent.
-fn exponent(kind: usize, digits: u64) -> u64 {
+// What coefficients a table has.
+#[derive(Clone, Copy)]
+pub enum Kind {
+    // magnitudes of 1/16 to 16, of 2^-32 to 2^31, and any exponent
+    Near,
+    Far,
+    Any,
+    // whole numbers within 20
+    Whole,
+    Special,
+    // those that stand in the input
+    Listed,
+}
+
+impl From<usize> for Kind {
+    fn from(number: usize) -> Kind {
+        match number {
+            1 => Kind::Far,
+            2 => Kind::Any,
+            3 => Kind::Whole,
+            4 => Kind::Special,
+            5 => Kind::Listed,
+            _ => Kind::Near,
+        }
+    }
+}
+
+// Of coefficients that are not special, whole or listed.
+fn exponent(kind: Kind, digits: u64) -> u64 {
     match kind {
-        1 => 991 + digits / 0x100_0000_0000_0000 % 64,
-        2 => digits / 0x4_0000_0000_0000 % 2047,
+        Kind::Far => 991 + digits / 0x100_0000_0000_0000 % 64,
+        Kind::Any => digits / 0x4_0000_0000_0000 % 2047,
         _ => 1019 + digits / 2 % 8,
     }
 }
 
 // The last digit is the sign, and some above it are the fraction.
-fn ordinary(kind: usize, digits: u64) -> f64 {
+fn ordinary(kind: Kind, digits: u64) -> f64 {
     let sign = digits % 2 * 0x8000_0000_0000_0000;
     let fraction = digits / 16 % 0x10_0000_0000_0000;
     bits::float(sign + exponent(kind, digits) % 0x800 * 0x10_0000_0000_0000 + fraction)
@@ -39,21 +66,20 @@ fn special(digits: u64) -> f64 {
         4 => -0.0,
         5 => 1.7976931348623157e308,
         6 => 5e-324,
-        _ => ordinary(0, digits),
+        _ => ordinary(Kind::Near, digits),
     }
 }
 
-// Kind 3 has whole numbers within 20. Of kind 5 they stand in the input.
-fn coefficient<R: Read + Drop>(input: &mut Input<R>, kind: usize, digits: u64) -> f64 {
+fn coefficient<R: Read + Drop>(input: &mut Input<R>, kind: Kind, digits: u64) -> f64 {
     match kind {
-        3 => std::num::nearest_u64_to_f64(digits % 41) - 20.0,
-        4 => special(digits),
-        5 => input.cell(),
+        Kind::Whole => std::num::nearest_u64_to_f64(digits % 41) - 20.0,
+        Kind::Special => special(digits),
+        Kind::Listed => input.cell(),
         _ => ordinary(kind, digits),
     }
 }
 
-pub fn fill<R: Read + Drop>(input: &mut Input<R>, table: &mut [f64], kind: usize, seed: usize) {
+pub fn fill<R: Read + Drop>(input: &mut Input<R>, table: &mut [f64], kind: Kind, seed: usize) {
     let mut x = seed as u64;
     for cell in table {
         let high = next(x);
