@@ -1,4 +1,4 @@
--- What the number of the first no says of the answer: `refused`, `served` and `few_points`. Assumes nothing.
+-- What the number of the first no says of the answer: `refused`, `served` and `few_points`, together `by_questions`. Assumes nothing.
 use Rattle.std.specs.Prelude.{◌≡◌, ℕ, ◌≤◌, Result, Err}
 use Rattle.std.proofs.Common.{sym, arith}
 use Rattle.rules.specs.declared.PathError.{PathError}
@@ -21,3 +21,6 @@ served b cells p asked is = rw is (sym (accepted_answer b cells (sym asked)))
 pub few_points : (b : BuildInput) (cells : ℕ) → 0 ≡ first_no (build_questions b cells) → (1 ≤ b.points) × (b.points ≤ 257)
 unfolding build_number
 few_points b cells asked = let h = points_known b cells (sym asked) in (omega arith, h.1)
+
+-- what a preview goes by
+pub ruleset by_questions = (refused, served, few_points)

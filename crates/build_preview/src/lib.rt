@@ -11,7 +11,7 @@ use rules::{PathError, PathRecord, SplineInput};
 
 // A1, V1, V2, V3, V4, V7: the number and the record that a build would give, given the same and a buffer of so many cells. The length
 // is any number, also one that no buffer has. Nothing is lent that could be written to.
-#[tactic(auto, using(crate::proofs::Answer::refused, crate::proofs::Answer::served, crate::proofs::Answer::few_points))]
+#[tactic(auto, using(crate::proofs::Answer::by_questions))]
 pub fn preview(input: SplineInput, cells: usize) -> Result<PathRecord, PathError>
     ensures { build_answered result ≡ build_answer (given_by input.entry) cells }
 {

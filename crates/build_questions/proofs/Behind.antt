@@ -8,6 +8,7 @@ use Rattle.rules.specs.Tables.{m_of}
 use Rattle.rules.specs.Build.{BuildInput, valid_state, valid_range, finite_state, table_length, build_questions}
 use Rattle.rules.specs.Master.{size_questions}
 use Rattle.build_shape.specs.Shape.{shape_questions}
+use Rattle.build_shape.proofs.Shaped.{limits}
 use Rattle.questions.proofs.Asked.{no_decides, went_on}
 
 abbrev pub of_counts : BuildInput → List Question
@@ -32,3 +33,6 @@ refused b cells e r is asked = no_decides e r (of_counts b) (others b cells) is 
 pub behind : (b : BuildInput) (cells : ℕ) → 0 ≡ first_no (of_counts b) → first_no (build_questions b cells) ≡ first_no (others b cells)
 unfolding build_questions shape_questions size_questions
 behind b cells e = went_on (of_counts b) (others b cells) tt e
+
+-- what the questions behind those of counts go by
+pub ruleset by_counts = (refused, behind, limits)

@@ -11,7 +11,7 @@ ghost use Rattle.rules.specs.Build.{given_by, valid_state, finite_state, build_q
 use build_shape::shape_questions;
 use rules::{BoundaryState, PathError, SplineInput};
 
-// B6: of a state, with the numbers beside it.
+// B6: of a state, with the numbers beside it. A build's input has them apart, as C does, so a struct of both would be made for two calls.
 #[tactic(auto, unfolding(rules::specs::Build::valid_state))]
 fn valid_state(axes: usize, m: usize, state: Option<BoundaryState>, numbers: &[f64]) -> bool
     requires { (axes ≤ 8) × (m ≤ 3) }
@@ -27,7 +27,7 @@ fn valid_state(axes: usize, m: usize, state: Option<BoundaryState>, numbers: &[f
 fn all_finite(numbers: &[f64]) -> bool
     ensures { result ≡ all finite numbers.now }
 {
-    numbers.iter().all(|&number| questions::is_finite(number))
+    numbers.iter().all(|number| number.is_finite())
 }
 
 // B9: of a state, with the numbers beside it.
@@ -50,7 +50,7 @@ fn all_numbers_finite(input: SplineInput) -> bool
 }
 
 // G4: the first no is the refusal.
-#[tactic(auto, using(crate::proofs::Behind::refused, crate::proofs::Behind::behind, build_shape::proofs::Shaped::limits), unfolding(rules::specs::Questions::first_no))]
+#[tactic(auto, using(crate::proofs::Behind::by_counts), unfolding(rules::specs::Questions::first_no))]
 pub fn build_questions(input: SplineInput, cells: usize) -> Result<(), PathError>
     ensures { number_answered result ≡ first_no (build_questions (given_by input.entry) cells) }
 {

@@ -65,3 +65,6 @@ behind order points axes numbers e = went_on (size_questions order points) _ tt 
 pub product : (order points axes : ℕ) → 0 ≡ first_no (size_questions order points) → true ≡ valid_axes axes → axes * points ≤ 8 * 257
 unfolding valid_axes
 product order points axes e few = mul-le-mul (leb→le axes 8 (and_r (leb 1 axes) _ (subst T few tt))) (sized (sym e)).most
+
+-- what the questions behind those of the size go by
+pub ruleset by_size = (refused, behind, product)

@@ -9,7 +9,7 @@ use questions::{size_questions, valid_axes};
 use rules::PathError;
 
 // The first no of the five is the refusal, of a waypoint list of so many numbers.
-#[tactic(auto, using(crate::proofs::Shaped::refused, crate::proofs::Shaped::behind, crate::proofs::Shaped::product), unfolding(rules::specs::Questions::first_no))]
+#[tactic(auto, using(crate::proofs::Shaped::by_size), unfolding(rules::specs::Questions::first_no))]
 pub fn shape_questions(
     order: usize,
     points: usize,

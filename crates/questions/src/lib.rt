@@ -3,20 +3,11 @@
 #![tactic(auto)]
 
 ghost use Rattle.std.specs.Prelude.{◌≡◌, ◌≤◌};
-ghost use Rattle.rules.specs.Floats.{finite};
 ghost use Rattle.rules.specs.Questions.{first_no, number_answered};
 ghost use Rattle.rules.specs.Build.{valid_order, valid_axes, valid_range, inv_ds_of};
 ghost use Rattle.rules.specs.Master.{size_questions};
 
 use rules::{PathError, PathParam};
-
-// The number is neither NaN nor an infinity.
-#[tactic(auto, using(crate::proofs::Finite::finite_is))]
-pub fn is_finite(x: f64) -> bool
-    ensures { result ≡ finite x }
-{
-    x.is_finite()
-}
 
 // B1, Q1, M1: is the order 3, 5 or 7?
 #[tactic(auto, unfolding(rules::specs::Build::valid_order))]
@@ -60,7 +51,8 @@ pub fn valid_axes(axes: usize) -> bool
     0 < axes && axes <= MOST_AXES
 }
 
-// B8, Q6: inv_ds, how many segments come to a unit of s.
+// B8, Q6: inv_ds, how many segments come to a unit of s. The two ends stand in a config or in a path, so a struct of both would be made
+// for this call and the next alone.
 #[tactic(auto, unfolding(rules::specs::Build::inv_ds_of))]
 pub fn inv_ds(segments: usize, s_min: PathParam, s_max: PathParam) -> f64
     requires { segments ≤ 256 }
@@ -77,5 +69,5 @@ pub fn valid_range(segments: usize, s_min: PathParam, s_max: PathParam) -> bool
     ensures { result ≡ valid_range segments s_min s_max }
 {
     let inv = inv_ds(segments, s_min, s_max);
-    is_finite(inv) && 0.0 < inv
+    inv.is_finite() && 0.0 < inv
 }
