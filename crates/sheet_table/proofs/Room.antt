@@ -2,15 +2,13 @@
 use mathlib.Core.Path.{◌≡◌, sym, ap, ap₂, ◌∙◌}
 use mathlib.Core.Logic.{◌⊎◌, inl, inr}
 use mathlib.Core.List.{List, ◌++◌}
-use Prim.Native.Nat.{ℕ, ◌-◌, ◌≤◌, ◌<◌, min}
-use native.Mathlib.Nat.{sub-zero}
+use Prim.Native.Nat.{ℕ, ◌≤◌, ◌<◌, min}
 use native.Mathlib.Omega.{arith}
 use lib.ListN.{length, take, drop, drop_of_length-le}
 use lib.Seq.{take_all, length-take-le}
 use lib.Ieee.{Float}
 use Rattle.law_lists.proofs.Filling.{lt_or_le}
-use Rattle.rules.specs.declared.BuildAnswer.{BuildAnswer}
-use Rattle.rules.specs.Build.{BuildInput, build_answer, buffer_after}
+use Rattle.rules.specs.Build.{BuildInput, BuildAnswer, build_answer, buffer_after}
 use Rattle.rules.specs.SheetAnswers.{cells_of}
 
 -- a list is parted at k, or at its end where it is shorter
@@ -25,11 +23,12 @@ parted k xs = go (lt_or_le k (length xs))
         (rw e (take_all (length xs) xs full ∙ sym (take_all k xs l)), rw e (drop_of_length-le xs full ∙ sym (drop_of_length-le xs l)))
 
 -- what a build into the part that is lent answers and leaves
-pub built_in : (b c : BuildInput) (before after : List Float) (room : ℕ) (r : BuildAnswer) → b ≡ c → room ≡ min (length before) (cells_of c)
-    → (r ≡ build_answer b (length (take (room - 0) before))) × (after ≡ buffer_after b (take (room - 0) before))
-    → (r ≡ build_answer c (min (length before) (cells_of c)))
-    × (after ++ drop (room - 0) before ≡ buffer_after c (take (cells_of c) before) ++ drop (cells_of c) before)
-built_in b c before after room r e is (number, buffer) = (
-  number ∙ rw (e, sub-zero, is) (ap (build_answer c) (length-take-le (min (length before) (cells_of c)) before (omega arith))),
-  rw (buffer, e, sub-zero, is) (ap₂ (λ (xs ys : List Float). buffer_after c xs ++ ys) (parted (cells_of c) before).0 (parted (cells_of c) before).1),
+pub built_in : {b c : BuildInput} (before : List Float) {after : List Float} {room : ℕ} {answer : BuildAnswer} → b ≡ c
+    → room ≡ min (length before) (cells_of c)
+    → (answer ≡ build_answer b (length (take room before))) × (after ≡ buffer_after b (take room before))
+    → (answer ≡ build_answer c (min (length before) (cells_of c)))
+    × (after ++ drop room before ≡ buffer_after c (take (cells_of c) before) ++ drop (cells_of c) before)
+built_in {c = c} before e is (number, buffer) = (
+  number ∙ rw (e, is) (ap (build_answer c) (length-take-le (min (length before) (cells_of c)) before (omega arith))),
+  rw (buffer, e, is) (ap₂ (λ (xs ys : List Float). buffer_after c xs ++ ys) (parted (cells_of c) before).0 (parted (cells_of c) before).1),
 )

@@ -3,19 +3,13 @@
 #![tactic(auto)]
 
 ghost use Rattle.std.specs.Prelude.{◌≡◌, ◌++◌, min, length, take, drop};
-ghost use Rattle.rules.specs.Build.{build_answer, buffer_after};
+ghost use Rattle.rules.specs.Build.{build_answered, build_answer, buffer_after};
 ghost use Rattle.rules.specs.Sheets.{Sheet};
 ghost use Rattle.rules.specs.SheetAnswers.{sheet_input, cells_of};
 ghost use Rattle.sheet_record.specs.Held.{ReadOf, ReadOfSome};
 
-use rules::BuildAnswer;
+use rules::{PathError, PathRecord};
 use sheet_record::SheetNumbers;
-
-fn lesser(a: usize, b: usize) -> usize
-    ensures { result ≡ min a b }
-{
-    if a < b { a } else { b }
-}
 
 // J9, J13: the build. The table goes into the first cells of the buffer, and the others stay, so only a buffer that is too short is
 // of another length.
@@ -25,32 +19,20 @@ pub fn build_read(
     start: &[i64],
     end: &[i64],
     coeffs: &mut [f64],
-) -> BuildAnswer
+) -> Result<PathRecord, PathError>
     requires { ReadOfSome n points.now start.now end.now }
     ensures { (s : Sheet) → ReadOf s n points.now start.now end.now
         → let b = sheet_input s in
         let before = coeffs.old in
-        (result ≡ build_answer b (min (length before) (cells_of b)))
+        (build_answered result ≡ build_answer b (min (length before) (cells_of b)))
         × (coeffs.new ≡ buffer_after b (take (cells_of b) before) ++ drop (cells_of b) before) }
 {
     let mut waypoints = [0.0; 2056];
     let mut first = [0.0; 24];
     let mut last = [0.0; 24];
     sheet_columns::prepare(n, points, start, end, &mut waypoints, &mut first, &mut last);
-    let config = sheet_config::config_of(n);
-    let room = lesser(coeffs.len(), sheet_config::cells_of(n));
-    let axes = n.axes;
-    let count = n.points;
-    let all = count * axes;
-    let of_first = n.start * axes;
-    let of_last = n.end * axes;
-    build::from_waypoints_view(
-        config,
-        count,
-        axes,
-        &waypoints[0..all],
-        &first[0..of_first],
-        &last[0..of_last],
-        &mut coeffs[0..room],
-    )
+    let input = sheet_columns::input(n, &waypoints, &first, &last);
+    let cells = sheet_config::cells_of(n);
+    let room = coeffs.len().min(cells);
+    build::from_waypoints_view(input, &mut coeffs[..room])
 }

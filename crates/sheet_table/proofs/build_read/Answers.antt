@@ -1,10 +1,9 @@
--- `sheet_table::build_read` meets its contract: what is lent to the build is what the sheet stands for, and of the buffer as many cells as the table
+-- `sheet_table::build_read` meets its contract: what the build is given is what the sheet stands for, and of the buffer as many cells as the table
 -- has, or all where it has fewer. Assumes nothing.
 use mathlib.Core.Path.{refl, ap, ◌∙◌}
 use Prim.Native.Nat.{min}
 use lib.ListN.{length}
-use Rattle.rules.specs.SheetAnswers.{sheet_input}
-use Rattle.sheet_columns.proofs.Read.{reached, cells_read, input_lent}
+use Rattle.sheet_columns.proofs.Read.{reached, cells_read, input_given}
 use Rattle.sheet_table.proofs.Room.{built_in}
 use Rattle.sheet_table.proofs.build_read.Goals as goal
 
@@ -14,13 +13,6 @@ prepare-requires c = (reached c.requires.read, refl, refl, refl)
 
 pub returns : goal.returns
 returns c s read =
-    built_in
-    _
-    (sheet_input s)
-    c.args.coeffs.now
-    _
-    c.lesser-room.result
-    c.from_waypoints_view.result
-    (input_lent s read c.prepare.ensures c.config_of-config.result c.config_of-config.ensures)
-    (c.lesser-room.ensures ∙ ap (min (length c.args.coeffs.now)) (c.cells_of.ensures ∙ cells_read s read))
+    built_in c.args.coeffs.now (input_given s read c.prepare.ensures c.input-input.ensures)
+    (c.min-room.ensures ∙ ap (min (length c.args.coeffs.now)) (c.cells_of-cells.ensures ∙ cells_read s read))
     c.from_waypoints_view.ensures
