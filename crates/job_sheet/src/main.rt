@@ -24,10 +24,7 @@ fn read_full<R: Read>(reader: &mut R, list: &mut [u8]) -> io::Result<usize>
 
 // The first bytes of a list, or all of them where it has no more.
 fn write_first<P: Print>(printer: &P, bytes: &[u8], count: usize) -> io::Result<()> {
-    if count < bytes.len() {
-        return printer.write_all(&bytes[0..count]);
-    }
-    printer.write_all(bytes)
+    printer.write_all(&bytes[..count.min(bytes.len())])
 }
 
 // (The arrays are made and lent apart: the prover knows the length of one that is a parameter, and counts that of one just made.)
@@ -37,8 +34,8 @@ fn print<P: Print>(
     coeffs: &mut [f64; 16384],
     out: &mut [u8; 302240],
 ) -> io::Result<()> {
-    let printed = sheet_print::print_sheet(text, coeffs, out);
-    write_first(printer, out, printed.count)
+    let count = sheet_print::print_sheet(text, coeffs, out).unwrap_or(0);
+    write_first(printer, out, count)
 }
 
 // J19: one byte more than a sheet may have is read, which tells a longer text. There is room for the longest table and output.

@@ -3,57 +3,48 @@
 #![tactic(auto)]
 
 ghost use Rattle.std.specs.Prelude.{◌≡◌, length};
-ghost use Rattle.rules.specs.SheetAnswers.{sheet_place, sheet_answer, sheet_buffer};
+ghost use Rattle.rules.specs.SheetAnswers.{place_answered, sheet_answered, sheet_place, sheet_answer, sheet_buffer};
 
-use build_records::no_path;
-use rules::{SheetAnswer, SheetPlace};
-use sheet_reader::SheetRead;
+use rules::{PathRecord, SheetError};
+use sheet_reader::read_sheet;
 
-// A1, J12, J13: the number and the place that the program prints, the build's questions included; 0 and the sheet's length where
-// the sheet is built. Nothing is written.
-pub fn read_place(text: &[u8]) -> SheetPlace
-    ensures { result ≡ sheet_place text.now }
+// What 8 axes take of points, and of a state's numbers: one more of each than an axis may have.
+const POINTS_ROOM: usize = 2064;
+
+const STATE_ROOM: usize = 32;
+
+// A1, J12, J13: the refusal that the program prints, the build's questions included. Nothing is written.
+pub fn read_place(text: &[u8]) -> Result<(), SheetError>
+    ensures { place_answered text.now result ≡ sheet_place text.now }
 {
-    let mut points = [0; 2064];
-    let mut start = [0; 32];
-    let mut end = [0; 32];
-    let read = sheet_reader::read_sheet(text, &mut points, &mut start, &mut end);
-    match read {
-        SheetRead::Is(n) => {
-            let number = sheet_questions::number_of(n, &points, &start, &end);
-            SheetPlace {
-                number,
-                at: text.len(), // J13: of the questions
-            }
-        }
-        SheetRead::Refused { number, at } => SheetPlace { number, at },
+    let mut points = [0; POINTS_ROOM];
+    let mut start = [0; STATE_ROOM];
+    let mut end = [0; STATE_ROOM];
+    let n = read_sheet(text, &mut points, &mut start, &mut end)?;
+    match sheet_questions::number_of(n, &points, &start, &end) {
+        Ok(()) => Ok(()),
+        Err(cause) => Err(SheetError {
+            cause,
+            at: text.len(), // J13: of the questions
+        }),
     }
 }
 
 // A1, D1, J9, J13, J27: the table of a sheet, built into the first cells of a buffer; the others stay as they were. 16,384 cells
 // always suffice, and a buffer that is too short is refused as one of another length is.
-pub fn build_sheet(text: &[u8], coeffs: &mut [f64]) -> SheetAnswer
-    ensures { (result ≡ sheet_answer text.now (length coeffs.old))
+pub fn build_sheet(text: &[u8], coeffs: &mut [f64]) -> Result<PathRecord, SheetError>
+    ensures { (sheet_answered text.now result ≡ sheet_answer text.now (length coeffs.old))
         × (coeffs.new ≡ sheet_buffer text.now coeffs.old) }
 {
-    let mut points = [0; 2064];
-    let mut start = [0; 32];
-    let mut end = [0; 32];
-    let read = sheet_reader::read_sheet(text, &mut points, &mut start, &mut end);
-    match read {
-        SheetRead::Is(n) => {
-            let built = sheet_table::build_read(n, &points, &start, &end, coeffs);
-            let path = built.path;
-            SheetAnswer {
-                number: built.number,
-                at: text.len(), // J13: of the build
-                path,
-            }
-        }
-        SheetRead::Refused { number, at } => SheetAnswer {
-            number,
-            at,
-            path: no_path(),
-        },
+    let mut points = [0; POINTS_ROOM];
+    let mut start = [0; STATE_ROOM];
+    let mut end = [0; STATE_ROOM];
+    let n = read_sheet(text, &mut points, &mut start, &mut end)?;
+    match sheet_table::build_read(n, &points, &start, &end, coeffs) {
+        Ok(path) => Ok(path),
+        Err(cause) => Err(SheetError {
+            cause,
+            at: text.len(), // J13: of the build
+        }),
     }
 }

@@ -25,7 +25,21 @@ use Rattle.rules.specs.SheetFaults.{Judged, readable, refused}
 use Rattle.rules.specs.SheetAnswers.{sheet_input, cells_of, answer_for, buffer_for, most_cells, table_for, table_output, refused_output}
 use Rattle.rules.proofs.Build.{by_order, length-table}
 use Rattle.rules.proofs.BuildAnswers.{order_known, points_known, axes_known, accepted_buffer}
+use Rattle.std.proofs.Common.{Result, Ok, Err}
+use Rattle.rules.specs.declared.SheetError.{SheetError}
+use Rattle.rules.specs.SheetAnswers.{SheetAnswer, sheet_answered}
+use Rattle.rules.proofs.Questions.{number-not_zero}
 use Rattle.sheet_print.specs.Printing.{path_cells, Printable, output_of}
+
+-- what is printed of an answer, as the definitions have it: by its number
+unfoldable pub output_by_number : SheetAnswer → List Float → List ℕ
+output_by_number a buffer = cond (eqb a.number 0) (table_output a.path (take (path_cells a.path) buffer)) (refused_output a.number a.at)
+
+pub by_number : (t : List ℕ) (r : Result PathRecord SheetError) (buffer : List Float)
+    → output_of r buffer ≡ output_by_number (sheet_answered t r) buffer
+unfolding output_by_number
+by_number t (Ok path) buffer = refl
+by_number t (Err e) buffer = rw (number-not_zero e.cause)
 
 -- a build that answers 0
 module _ (b : BuildInput) (e : build_number b (cells_of b) ≡ 0) where
@@ -77,13 +91,13 @@ module _ (t : List ℕ) (before : List Float) (h : most_cells ≤ length before)
 
   -- of a build, by its number
   output_of_lem : (b : BuildInput) (n : ℕ) (path : PathRecord) → n ≡ build_number b (cells_of b) → path ≡ cond (eqb n 0) (accepted_record b) refused_record
-      → output_of (record { number = n; at = length t; path = path }) (buffer_after b (take (cells_of b) before) ++ drop (cells_of b) before)
+      → output_by_number (record { number = n; at = length t; path = path }) (buffer_after b (take (cells_of b) before) ++ drop (cells_of b) before)
       ≡ cond (eqb n 0) (table_output path (table b)) (refused_output n (length t))
-  unfolding output_of
+  unfolding output_by_number
   output_of_lem b n path e p = go (eqb n 0) refl
     where
       go : (x : Bool) → eqb n 0 ≡ x
-          → output_of (record { number = n; at = length t; path = path }) (buffer_after b (take (cells_of b) before) ++ drop (cells_of b) before)
+          → output_by_number (record { number = n; at = length t; path = path }) (buffer_after b (take (cells_of b) before) ++ drop (cells_of b) before)
           ≡ cond (eqb n 0) (table_output path (table b)) (refused_output n (length t))
       go false f = rw f
       go true f =
@@ -93,9 +107,9 @@ module _ (t : List ℕ) (before : List Float) (h : most_cells ≤ length before)
           (ap (λ k. take k (buffer_after b (take (cells_of b) before) ++ drop (cells_of b) before)) (path_cells_lem b z) ∙ table_first b z))
 
   pub output_is : (j : Judged)
-      → output_of (answer_for t j cells_of) (buffer_for j before)
+      → output_by_number (answer_for t j cells_of) (buffer_for j before)
       ≡ cond (eqb (answer_for t j cells_of).number 0) (table_output (answer_for t j cells_of).path (table_for j))
       (refused_output (answer_for t j cells_of).number (answer_for t j cells_of).at)
-  unfolding output_of answer_for buffer_for table_for refused_record build_answer
+  unfolding output_by_number answer_for buffer_for table_for refused_record build_answer
   output_is (refused k place) = refl
   output_is (readable s) = output_of_lem (sheet_input s) (build_number (sheet_input s) (cells_of (sheet_input s))) _ refl refl

@@ -1,16 +1,24 @@
--- `sheet::build_sheet` meets its contract: what was read is built, or refused. Assumes nothing.
+-- What was read is built, or refused. Assumes nothing.
+use Rattle.std.proofs.Common.{Ok, Err}
+use Rattle.std.proofs.lemmas.Result.{err_from_is_err_and}
 use Rattle.sheet.proofs.Answers.{it_is_readable, it_is_refused, built, not_built}
 use Rattle.sheet.proofs.build_sheet.Goals as goal
 
-pub build_read-built-requires : goal.build_read-built-requires
-build_read-built-requires c =
-    let r = it_is_readable _ _ _ _ _ c.read_sheet-read.ensures _ c.in-Is.is in record { «sheet» = r.«sheet»; read = r.read }
+pub build_read-requires : goal.build_read-requires
+build_read-requires c =
+    let r = it_is_readable _ _ _ _ _ c.in_ok-n.ensures in record { «sheet» = r.«sheet»; read = r.read }
 
-pub returns-in-Is : goal.returns-in-Is
-returns-in-Is c =
-    let r = it_is_readable _ _ _ _ _ c.read_sheet-read.ensures _ c.in-Is.is in
-    built c.args.text.now c.args.coeffs.now r.«sheet» _ _ r.is (c.build_read-built.ensures r.«sheet» r.read)
+pub returns-in_err-n : goal.returns-in_err-n
+returns-in_err-n c =
+    let p = err_from_is_err_and c.from_residual.result c.from_residual.ensures.1 in
+    rw (p.1, p.2) (not_built c.args.text.now c.args.coeffs.now _ (it_is_refused _ _ _ _ _ c.in_err-n.ensures))
 
-pub returns-in-Refused : goal.returns-in-Refused
-returns-in-Refused c =
-    not_built c.args.text.now c.args.coeffs.now _ _ _ (it_is_refused _ _ _ _ _ c.read_sheet-read.ensures _ _ c.in-Refused.is) c.no_path.ensures
+pub returns-in-Ok : goal.returns-in-Ok
+returns-in-Ok c =
+    let r = it_is_readable _ _ _ _ _ c.in_ok-n.ensures in
+    built c.args.text.now c.args.coeffs.now r.«sheet» _ r.is (Ok c.in-Ok.path) (c.in-Ok.ensures r.«sheet» r.read)
+
+pub returns-in-Err : goal.returns-in-Err
+returns-in-Err c =
+    let r = it_is_readable _ _ _ _ _ c.in_ok-n.ensures in
+    built c.args.text.now c.args.coeffs.now r.«sheet» _ r.is (Err c.in-Err.cause) (c.in-Err.ensures r.«sheet» r.read)

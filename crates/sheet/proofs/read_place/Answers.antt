@@ -1,15 +1,24 @@
--- `sheet::read_place` meets its contract: what was read is asked, or refused. Assumes nothing.
+-- What was read is asked, or refused. Assumes nothing.
+use Rattle.std.proofs.Common.{Ok, Err}
+use Rattle.std.proofs.lemmas.Result.{err_from_is_err_and}
 use Rattle.sheet.proofs.Answers.{it_is_readable, it_is_refused, place_read, place_refused}
 use Rattle.sheet.proofs.read_place.Goals as goal
 
-pub number_of-number-requires : goal.number_of-number-requires
-number_of-number-requires c =
-    let r = it_is_readable _ _ _ _ _ c.read_sheet-read.ensures _ c.in-Is.is in record { «sheet» = r.«sheet»; read = r.read }
+pub number_of-requires : goal.number_of-requires
+number_of-requires c =
+    let r = it_is_readable _ _ _ _ _ c.in_ok-n.ensures in record { «sheet» = r.«sheet»; read = r.read }
 
-pub returns-in-Is : goal.returns-in-Is
-returns-in-Is c =
-    let r = it_is_readable _ _ _ _ _ c.read_sheet-read.ensures _ c.in-Is.is in
-    place_read c.args.text.now r.«sheet» _ r.is (c.number_of-number.ensures r.«sheet» r.read)
+pub returns-in_err-n : goal.returns-in_err-n
+returns-in_err-n c =
+    let p = err_from_is_err_and c.from_residual.result c.from_residual.ensures.1 in
+    rw (p.1, p.2) (place_refused c.args.text.now _ (it_is_refused _ _ _ _ _ c.in_err-n.ensures))
 
-pub returns-in-Refused : goal.returns-in-Refused
-returns-in-Refused c = place_refused c.args.text.now _ _ (it_is_refused _ _ _ _ _ c.read_sheet-read.ensures _ _ c.in-Refused.is)
+pub returns-in-Ok : goal.returns-in-Ok
+returns-in-Ok c =
+    let r = it_is_readable _ _ _ _ _ c.in_ok-n.ensures in
+    place_read c.args.text.now (Ok c.in-Ok.field-0) r.«sheet» r.is (c.in-Ok.ensures r.«sheet» r.read)
+
+pub returns-in-Err : goal.returns-in-Err
+returns-in-Err c =
+    let r = it_is_readable _ _ _ _ _ c.in_ok-n.ensures in
+    place_read c.args.text.now (Err c.in-Err.cause) r.«sheet» r.is (c.in-Err.ensures r.«sheet» r.read)

@@ -8,8 +8,8 @@ returns-then-coeffs-lt-MOST_CELLS c = too_few_cells c.args.text.now c.args.coeff
 pub returns-then-out-lt-MOST_BYTES : goal.returns-then-out-lt-MOST_BYTES
 returns-then-out-lt-MOST_BYTES c = too_few_bytes c.args.text.now c.args.coeffs.now c.args.out.now c.if-out-lt-MOST_BYTES.true
 
-pub write_answer-count-requires : goal.write_answer-count-requires
-write_answer-count-requires c = (
+pub write_answer-requires : goal.write_answer-requires
+write_answer-requires c = (
   c.if-out-lt-MOST_BYTES.false,
   may_print c.args.text.now c.args.coeffs.now c.if-coeffs-lt-MOST_CELLS.false _ _ c.build_sheet-answer.ensures c.build_sheet-answer.auto.coeffs,
 )
@@ -17,4 +17,4 @@ write_answer-count-requires c = (
 pub returns : goal.returns
 returns c =
     printed c.args.text.now c.args.coeffs.now c.args.out.now c.if-coeffs-lt-MOST_CELLS.false c.if-out-lt-MOST_BYTES.false _ _ c.build_sheet-answer.ensures
-    _ _ c.write_answer-count.ensures
+    _ _ c.write_answer.ensures
