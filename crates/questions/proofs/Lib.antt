@@ -1,4 +1,3 @@
-pub mod Tests
 pub mod Finite
 pub mod Range
 pub mod Sized
