@@ -57,7 +57,8 @@ fn set<R: Read + Drop>(trial: &mut Trial<R>) {
     let order = trial.input.count();
     let n = next_lengths(trial);
     let mut numbers = [0; 2464];
-    let all = n.waypoints + n.start + n.end + n.table;
+    let states = n.start.saturating_add(n.end);
+    let all = n.waypoints.saturating_add(states).saturating_add(n.table);
     trial.input.list(&mut numbers, all, |input| input.integer());
     trial.answered(check(order, n, &numbers));
     for _ in 0..trial.input.count() {
