@@ -30,7 +30,9 @@ fn call<R: Read + Drop>(trial: &mut Trial<R>) {
     let given = test_given::next(&mut trial.input);
     let lent = trial.input.count().min(16400);
     let mut numbers = [0.0; 2400];
-    trial.input.list(&mut numbers, given.count(), |input| input.cell());
+    trial
+        .input
+        .list(&mut numbers, given.count(), |input| input.cell());
     let mut buffer = [0.0; 16416];
     seen::fill(&mut buffer);
     let answer = built(given.with(&numbers), &mut buffer[8..8 + lent]);

@@ -12,7 +12,9 @@ fn call<R: Read + Drop>(trial: &mut Trial<R>) {
     let given = test_given::next(&mut trial.input);
     let cells = trial.input.count();
     let mut numbers = [0.0; 2400];
-    trial.input.list(&mut numbers, given.count(), |input| input.cell());
+    trial
+        .input
+        .list(&mut numbers, given.count(), |input| input.cell());
     let answer = build_preview::preview(given.with(&numbers), cells);
     test_given::answered(trial, answer);
 }
