@@ -101,7 +101,9 @@ fn of_finite(a: f64, b: f64, c: f64) -> f64
 
 // R31: a * b + c with one rounding, for all operands. With a factor that is not finite the product needs no
 // rounding. An infinite addend is the answer even where the product alone would overflow. The operands stay three
-// floats, as in Rust's mul_add: nothing ties them together.
+// floats, as in Rust's mul_add: nothing ties them together. (It is not inlined, so that the common case, which callers inline, needs
+// few registers.)
+#[inline(never)]
 pub fn general(a: f64, b: f64, c: f64) -> f64
     ensures { result ≡ fused binary64 a b c }
 {

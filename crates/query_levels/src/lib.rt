@@ -54,16 +54,16 @@ pub struct Lengths {
 }
 
 // Q9, Q14: the buffer of derivative k: as long as the axes, or of any length where the level does not write it.
-fn valid_length(axes: usize, level: Level, k: u8, cells: usize) -> bool
-    ensures { result ≡ valid_length axes (level_number level) k cells }
+fn valid_length(axes: usize, level: u8, k: u8, cells: usize) -> bool
+    ensures { result ≡ valid_length axes level k cells }
 {
-    !level.writes(k) || cells == axes
+    level < k || cells == axes
 }
 
 impl Lengths {
-    // Q9: the buffers of all four.
-    pub fn valid(self, axes: usize, level: Level) -> bool
-        ensures { result ≡ valid_lengths axes (level_number level) (lengths self) }
+    // Q9: the buffers of all four, for any number as a level.
+    pub fn valid(self, axes: usize, level: u8) -> bool
+        ensures { result ≡ valid_lengths axes level (lengths self) }
     {
         valid_length(axes, level, 0, self.q)
             && valid_length(axes, level, 1, self.dq)

@@ -62,7 +62,7 @@ pub fn query_questions(
 {
     path_questions(path, cells)?;
     let known = Level::try_from(level)?; // Q8
-    if !n.valid(path.axes, known) {
+    if !n.valid(path.axes, level) {
         return Err(PathError::InvalidLength); // Q9
     }
     Ok(known)

@@ -2,13 +2,11 @@
 // and record beside those that stand behind it. The first lines of crates/test_build/stdin say how a call is written.
 #![tactic(auto)]
 
-use rules::{
-    BoundaryState, OutOfRangeMode, PathError, PathParam, PathRecord, SplineConfig, SplineInput,
-    number_answered,
-};
+use rules::{BoundaryState, PathError, PathParam, PathRecord, SplineConfig, SplineInput};
 use std::io::Read;
 use test_common::seen::Trial;
 use test_input::read::Input;
+use tezvorup_records::RawAnswer;
 
 // Kinds: 0 none, 1 given, 2 given per unit of s.
 fn next_state<R: Read + Drop>(input: &mut Input<R>) -> Option<BoundaryState> {
@@ -83,26 +81,16 @@ impl Given {
     }
 }
 
-// What stands in the place of a path's record where there is none.
-const NO_PATH: PathRecord = PathRecord {
-    order: 0,
-    segments: 0,
-    axes: 0,
-    s_min: PathParam(0.0),
-    s_max: PathParam(0.0),
-    inv_ds: 0.0,
-    mode: OutOfRangeMode::Error,
-};
-
-// A call more, its number and its record.
+// A call more, its number and its record, which is what C gets of the answer: all zero with mode Error where it is refused.
 pub fn answered<R: Read + Drop>(trial: &mut Trial<R>, answer: Result<PathRecord, PathError>) {
-    let path = answer.unwrap_or(NO_PATH);
-    trial.answered(number_answered(answer));
+    let told = RawAnswer::from(answer);
+    let path = told.path;
+    trial.answered(told.number);
     trial.whole(path.order);
     trial.whole(path.segments);
     trial.whole(path.axes);
-    trial.float(path.s_min.0);
-    trial.float(path.s_max.0);
+    trial.float(path.s_min);
+    trial.float(path.s_max);
     trial.float(path.inv_ds);
-    trial.whole(path.mode as usize);
+    trial.whole(usize::from(path.mode));
 }

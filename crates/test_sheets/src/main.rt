@@ -6,6 +6,7 @@
 use rules::{PathError, PathRecord, SheetError};
 use std::io;
 use std::io::Read;
+use tezvorup_records::RawPlace;
 use test_common::seen;
 use test_common::seen::{Trial, replay};
 
@@ -39,22 +40,15 @@ fn prints<R: Read + Drop>(trial: &mut Trial<R>, sheet: &[u8], output: &[u8]) {
     prints_into(trial, sheet, output, &mut coeffs, &mut out);
 }
 
-// A sheet's number and place: those of the refusal, or 0 and the sheet's length.
+// A sheet's number and place, which is what C gets of the answer.
 fn placed<R: Read + Drop, T: Copy>(
     trial: &mut Trial<R>,
     sheet: &[u8],
     answer: Result<T, SheetError>,
 ) {
-    match answer {
-        Ok(_) => {
-            trial.answered(0);
-            trial.whole(sheet.len());
-        }
-        Err(error) => {
-            trial.answered(u32::from(error.cause));
-            trial.whole(error.at);
-        }
-    }
+    let place = RawPlace::of(sheet, answer);
+    trial.answered(place.number);
+    trial.whole(place.at);
 }
 
 // A build, with as many cells lent as the input says.

@@ -84,7 +84,7 @@ pub struct RawSheet {
 const CLAMP: u8 = 1;
 
 // What a query does outside the range, by its number. (Neither type is this crate's, so this is no `From`.)
-fn mode_of(mode: u8) -> OutOfRangeMode
+pub fn mode_of(mode: u8) -> OutOfRangeMode
     ensures { result ≡ mode_of mode }
 {
     if mode == CLAMP {

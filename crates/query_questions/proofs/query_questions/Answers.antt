@@ -34,13 +34,13 @@ returns-then-not-valid-clause-number c =
     let level = c.in_ok-known.ensures in
     sym (behind c.args.path c.args.cells c.args.level (lengths c.args.n) c.in_ok-path_questions.ensures
     ∙ yes_to _ _ level.0
-    ∙ no_to _ (rw (← level.1) (sym c.if-not-valid.ensures)))
+    ∙ no_to _ (sym c.if-not-valid.ensures))
 
 pub returns-clause-number : goal.returns-clause-number
 unfolding buffer_questions first_no
 returns-clause-number c =
     let level = c.in_ok-known.ensures in
-    let valid : valid_lengths c.args.path.axes c.args.level (lengths c.args.n) ≡ true = rw (← level.1) (sym c.if-not-valid.ensures) in
+    let valid : valid_lengths c.args.path.axes c.args.level (lengths c.args.n) ≡ true = sym c.if-not-valid.ensures in
     sym (behind c.args.path c.args.cells c.args.level (lengths c.args.n) c.in_ok-path_questions.ensures
     ∙ yes_to _ _ level.0
     ∙ yes_to _ _ valid)
