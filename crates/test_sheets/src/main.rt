@@ -6,9 +6,9 @@
 use rules::{PathError, PathRecord, SheetError};
 use std::io;
 use std::io::Read;
-use tezvorup_records::RawPlace;
 use test_common::seen;
 use test_common::seen::{Trial, replay};
+use tezvorup_records::RawPlace;
 
 // (Functions of their own, so that what the library ensures stays out of their callers' proofs.)
 fn printed(sheet: &[u8], coeffs: &mut [f64], out: &mut [u8]) -> Result<usize, PathError> {
