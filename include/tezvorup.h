@@ -31,7 +31,7 @@ extern "C" {
 #endif
 
 /* The refusal numbers. Which of them each function can answer stands at the function, and that there are no others is
-   proved (NumbersAreListed, crates/tezvorup_records/specs/Meaning.antt). spline_message has a sentence for each. */
+   proved (NumbersAreListed, crates/theorem_records/specs/Exports.antt). spline_message has a sentence for each. */
 enum {
     /* Served. */
     SPLINE_OK = 0,

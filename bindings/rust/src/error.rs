@@ -164,7 +164,7 @@ impl std::error::Error for SheetError {}
 /// The most points that a curve has.
 const POINTS: usize = 257;
 
-/// Proved: a function answers no number but those it lists (NumbersAreListed, crates/tezvorup_records/specs/Meaning.antt).
+/// Proved: a function answers no number but those it lists (NumbersAreListed, crates/theorem_records/specs/Exports.antt).
 fn unlisted(number: u32) -> ! {
     panic!("{} is no number of this function", number)
 }
