@@ -9,7 +9,7 @@ use std::io::Read;
 use test_common::seen;
 use test_common::seen::{Trial, replay};
 
-// (A function of its own, so that what the build ensures stays out of its callers' proofs.)
+// (A function of its own, so that what the build ensures is kept out of its callers' proofs.)
 fn built(input: SplineInput, buffer: &mut [f64]) -> Result<PathRecord, PathError> {
     build::from_waypoints_view(input, buffer)
 }
@@ -39,6 +39,7 @@ fn call<R: Read + Drop>(trial: &mut Trial<R>) {
     judged(trial, answer, &buffer);
 }
 
+// (Each program stays with a main of its own, which names the step that is its own.)
 fn main(rt: HostRuntime) -> io::Result<()> {
     replay(&rt, rt.stdin(), |trial| call(trial))
 }

@@ -23,6 +23,7 @@ fn family<R: Read + Drop>(trial: &mut Trial<R>) {
     }
 }
 
+// (Each program stays with a main of its own, which names the step that is its own.)
 fn main(rt: HostRuntime) -> io::Result<()> {
     replay(&rt, rt.stdin(), |trial| family(trial))
 }

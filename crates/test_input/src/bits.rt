@@ -18,7 +18,8 @@ pub fn float(bits: u64) -> f64 {
     }
 }
 
-// Every NaN has the bits of the one that is written 7ff8000000000000.
+// Every NaN has the bits of the one that is written 7ff8000000000000. (It stays beside that of crates/sheet_bits: what tries the library
+// out leans on none of its code.)
 pub fn bits_of(x: f64) -> u64 {
     if x.is_nan() {
         0x7ff8_0000_0000_0000
@@ -27,6 +28,7 @@ pub fn bits_of(x: f64) -> u64 {
     }
 }
 
+// (It stays beside `==`, by which no NaN is equal to itself and the two zeros are equal.)
 pub fn same(x: f64, y: f64) -> bool {
     bits_of(x) == bits_of(y)
 }

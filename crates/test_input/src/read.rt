@@ -4,13 +4,16 @@
 // bits. A list of floats has 16 such digits for each, and behind it one character more, a space or a line's end; a small
 // number has 3 decimal digits, and one character more; an integer has 20 characters, its decimal digits at the right end
 // with the minus before them, and one character more.
+//
+// What is read of each width stays a function, a line each, so that a program says what it reads and the widths stand here alone.
 ghost use Rattle.std.specs.Prelude.{◌≤◌, ◌<◌, length};
 
 use crate::bits;
 use rules::OutOfRangeMode;
 use std::io::Read;
 
-// Reads until a list is full, the input ends or a read fails, and returns how many bytes it put at the list's start.
+// Reads until a list is full, the input ends or a read fails, and returns how many bytes it put at the list's start. (The loop stays:
+// std's read_exact does not say how many bytes there were where they are too few.)
 pub fn full<R: Read>(reader: &mut R, list: &mut [u8]) -> usize
     ensures { result ≤ length list.new }
 {
@@ -25,7 +28,8 @@ pub fn full<R: Read>(reader: &mut R, list: &mut [u8]) -> usize
     done
 }
 
-// A call's name, and how many characters there were: fewer than 68 at the end of the input.
+// A call's name, and how many characters there were: fewer than 68 at the end of the input. (Their number stays beside the text: none
+// is the input's end, and some, but fewer than 68, are a fault.)
 #[derive(Clone, Copy)]
 pub struct Name {
     pub text: [u8; 68],
@@ -38,7 +42,7 @@ impl Name {
     }
 }
 
-// A number as it is read.
+// A number as it is read. (The minus stays a flag: it is asked once, in `signed`, where an enum of two signs would be matched.)
 #[derive(Clone, Copy, Default)]
 struct Number {
     magnitude: u64,
@@ -147,7 +151,8 @@ impl<R: Read + Drop> Input<R> {
         self.digits::<21, 10>(0).magnitude as usize
     }
 
-    // So many items of a list, each read by `next`, put at the start of another.
+    // So many items of a list, each read by `next`, put at the start of another. (Their number stays beside the list: the input says
+    // it, and may say more than there is room for.)
     pub fn list<T: Copy, F: FnMut(&mut Self) -> T>(&mut self, list: &mut [T], n: usize, mut next: F)
         requires { F.IsAlwaysCallable next }
     {
@@ -156,7 +161,8 @@ impl<R: Read + Drop> Input<R> {
         }
     }
 
-    // So many bytes, put at the start of a list, as far as there is room: how many there is room for.
+    // So many bytes, put at the start of a list, as far as there is room: how many there is room for. (Their number stays beside the
+    // list, as above.)
     pub fn bytes(&mut self, list: &mut [u8], n: usize) -> usize
         ensures { result ≤ length list.new }
     {

@@ -26,7 +26,7 @@ fn next_lengths<R: Read + Drop>(trial: &mut Trial<R>) -> Lengths {
     }
 }
 
-// The list holds waypoints, start, end and table, one behind the other.
+// The list holds waypoints, start, end and table, one behind the other. (The answer stays a number, which is what the input has of it.)
 fn check(order: usize, n: Lengths, numbers: &[i64]) -> u32 {
     let (waypoints, rest) = numbers.split_at(n.waypoints.min(numbers.len()));
     let (start, rest) = rest.split_at(n.start.min(rest.len()));
@@ -66,6 +66,7 @@ fn set<R: Read + Drop>(trial: &mut Trial<R>) {
     }
 }
 
+// (Each program stays with a main of its own, which names the step that is its own.)
 fn main(rt: HostRuntime) -> io::Result<()> {
     replay(&rt, rt.stdin(), |trial| set(trial))
 }

@@ -19,12 +19,13 @@ fn next_record<R: Read + Drop>(input: &mut Input<R>) -> NumberReading {
     }
 }
 
-// What is kept is compared with the next record.
+// What is kept is compared with the next record. (Here and below it stays a parameter beside the trial: it is handed on from piece to
+// piece by value, which is what is tried, and the trial outlives it.)
 fn keeps<R: Read + Drop>(trial: &mut Trial<R>, kept: NumberReading, expected: NumberReading) {
     trial.called(kept == expected);
 }
 
-// What the record says is compared with the next three numbers.
+// What the record says is compared with the next three numbers. (It stays a parameter, as above.)
 fn says<R: Read + Drop>(trial: &mut Trial<R>, kept: NumberReading) {
     let said = number::finish(kept);
     let expected = trial.input.natural();
@@ -35,6 +36,7 @@ fn says<R: Read + Drop>(trial: &mut Trial<R>, kept: NumberReading) {
     trial.compared(said.value == value);
 }
 
+// A piece. (What is kept stays a parameter, as above.)
 fn goes_on<R: Read + Drop>(
     trial: &mut Trial<R>,
     kept: NumberReading,
@@ -47,7 +49,7 @@ fn goes_on<R: Read + Drop>(
     kept
 }
 
-// A piece has at most 64 bytes; what is more is cut off. A line's end stands behind it.
+// A piece has at most 64 bytes; what is more is cut off. A line's end stands behind it. (What is kept stays a parameter, as above.)
 fn piece<R: Read + Drop>(trial: &mut Trial<R>, kept: NumberReading) -> NumberReading {
     let mut line = [0; 64];
     let mut end = [0; 1];
@@ -76,6 +78,7 @@ fn trial<R: Read + Drop>(trial: &mut Trial<R>) {
     }
 }
 
+// (Each program stays with a main of its own, which names the step that is its own.)
 fn main(rt: HostRuntime) -> io::Result<()> {
     replay(&rt, rt.stdin(), |each| trial(each))
 }

@@ -19,6 +19,7 @@ fn call<R: Read + Drop>(trial: &mut Trial<R>) {
     test_given::answered(trial, answer);
 }
 
+// (Each program stays with a main of its own, which names the step that is its own.)
 fn main(rt: HostRuntime) -> io::Result<()> {
     replay(&rt, rt.stdin(), |trial| call(trial))
 }

@@ -62,7 +62,7 @@ fn next_entry<R: Read + Drop>(input: &mut Input<R>) -> Entry {
 }
 
 // What a query is asked, how many cells each buffer has, and what is to come out: the number, and how many cells of each buffer are
-// written.
+// written. (The level stays a number, since trials ask for levels that there are not.)
 #[derive(Clone, Copy)]
 struct Query {
     s: PathParam,
@@ -84,7 +84,8 @@ fn next_query<R: Read + Drop>(input: &mut Input<R>) -> Query {
     }
 }
 
-// (A function of its own, so that what a query ensures stays out of its callers' proofs.)
+// (A function of its own, so that what a query ensures is kept out of its callers' proofs. The `match` stays: the input says by a number
+// which entry point is meant, so that closures would be chosen by the same two cases. What it hands on stays apart, as both take it.)
 fn asked(
     query: Query,
     path: PathRecord,
@@ -152,6 +153,7 @@ fn along<R: Read + Drop>(trial: &mut Trial<R>) {
     }
 }
 
+// (Each program stays with a main of its own, which names the step that is its own.)
 fn main(rt: HostRuntime) -> io::Result<()> {
     replay(&rt, rt.stdin(), |trial| along(trial))
 }

@@ -40,20 +40,31 @@ impl From<usize> for Kind {
     }
 }
 
-// Of coefficients that are not special, whole or listed.
-fn exponent(kind: Kind, digits: u64) -> u64 {
-    match kind {
-        Kind::Far => 991 + digits / 0x100_0000_0000_0000 % 64,
-        Kind::Any => digits / 0x4_0000_0000_0000 % 2047,
-        _ => 1019 + digits / 2 % 8,
+impl Kind {
+    // Of coefficients that are not special, whole or listed.
+    fn exponent(self, digits: u64) -> u64 {
+        match self {
+            Kind::Far => 991 + digits / 0x100_0000_0000_0000 % 64,
+            Kind::Any => digits / 0x4_0000_0000_0000 % 2047,
+            _ => 1019 + digits / 2 % 8,
+        }
     }
-}
 
-// The last digit is the sign, and some above it are the fraction.
-fn ordinary(kind: Kind, digits: u64) -> f64 {
-    let sign = digits % 2 * 0x8000_0000_0000_0000;
-    let fraction = digits / 16 % 0x10_0000_0000_0000;
-    bits::float(sign + exponent(kind, digits) % 0x800 * 0x10_0000_0000_0000 + fraction)
+    // The last digit is the sign, and some above it are the fraction.
+    fn ordinary(self, digits: u64) -> f64 {
+        let sign = digits % 2 * 0x8000_0000_0000_0000;
+        let fraction = digits / 16 % 0x10_0000_0000_0000;
+        bits::float(sign + self.exponent(digits) % 0x800 * 0x10_0000_0000_0000 + fraction)
+    }
+
+    fn coefficient<R: Read + Drop>(self, input: &mut Input<R>, digits: u64) -> f64 {
+        match self {
+            Kind::Whole => std::num::nearest_u64_to_f64(digits % 41) - 20.0,
+            Kind::Special => special(digits),
+            Kind::Listed => input.cell(),
+            _ => self.ordinary(digits),
+        }
+    }
 }
 
 // NaNs, infinities, zeros, the greatest and the least, among ordinary ones.
@@ -66,16 +77,7 @@ fn special(digits: u64) -> f64 {
         4 => -0.0,
         5 => 1.7976931348623157e308,
         6 => 5e-324,
-        _ => ordinary(Kind::Near, digits),
-    }
-}
-
-fn coefficient<R: Read + Drop>(input: &mut Input<R>, kind: Kind, digits: u64) -> f64 {
-    match kind {
-        Kind::Whole => std::num::nearest_u64_to_f64(digits % 41) - 20.0,
-        Kind::Special => special(digits),
-        Kind::Listed => input.cell(),
-        _ => ordinary(kind, digits),
+        _ => Kind::Near.ordinary(digits),
     }
 }
 
@@ -84,6 +86,6 @@ pub fn fill<R: Read + Drop>(input: &mut Input<R>, table: &mut [f64], kind: Kind,
     for cell in table {
         let high = next(x);
         x = next(high);
-        *cell = coefficient(input, kind, high * 0x8000_0000 + x);
+        *cell = kind.coefficient(input, high * 0x8000_0000 + x);
     }
 }

@@ -10,7 +10,7 @@ use test_common::seen;
 use test_common::seen::{Trial, replay};
 use tezvorup_records::RawPlace;
 
-// (Functions of their own, so that what the library ensures stays out of their callers' proofs.)
+// (Functions of their own, so that what the library ensures is kept out of their callers' proofs.)
 fn printed(sheet: &[u8], coeffs: &mut [f64], out: &mut [u8]) -> Result<usize, PathError> {
     sheet_print::print_sheet(sheet, coeffs, out)
 }
@@ -20,24 +20,6 @@ fn built(sheet: &[u8], cells: &mut [f64], lent: usize) -> Result<PathRecord, She
     let from = cells.len().min(8);
     let end = from + lent.min(cells.len() - from);
     sheet::build_sheet(sheet, &mut cells[from..end])
-}
-
-// (Arrays are made and lent apart: the prover knows the length of one that is a parameter, and counts that of one just made.)
-fn prints_into<R: Read + Drop>(
-    trial: &mut Trial<R>,
-    sheet: &[u8],
-    output: &[u8],
-    coeffs: &mut [f64; 16384],
-    out: &mut [u8; 302240],
-) {
-    let count = printed(sheet, coeffs, out);
-    trial.called(count == Ok(output.len()) && out.starts_with(output));
-}
-
-fn prints<R: Read + Drop>(trial: &mut Trial<R>, sheet: &[u8], output: &[u8]) {
-    let mut coeffs = [0.0; 16384];
-    let mut out = [0; 302240];
-    prints_into(trial, sheet, output, &mut coeffs, &mut out);
 }
 
 // A sheet's number and place, which is what C gets of the answer.
@@ -61,12 +43,38 @@ fn builds<R: Read + Drop>(trial: &mut Trial<R>, sheet: &[u8]) {
     trial.cells(&cells, written);
 }
 
-// A sheet and its output.
-fn serves<R: Read + Drop>(trial: &mut Trial<R>, sheet: &[u8], output: &[u8]) {
-    prints(trial, sheet, output);
-    placed(trial, sheet, sheet::read_place(sheet));
-    builds(trial, sheet);
-    builds(trial, sheet);
+// A sheet, and the output that it is to have.
+#[derive(Clone, Copy)]
+struct Served<'a> {
+    sheet: &'a [u8],
+    output: &'a [u8],
+}
+
+impl Served<'_> {
+    // (Arrays are made and lent apart: the prover knows the length of one that is a parameter, and counts that of one just made.)
+    fn prints_into<R: Read + Drop>(
+        self,
+        trial: &mut Trial<R>,
+        coeffs: &mut [f64; 16384],
+        out: &mut [u8; 302240],
+    ) {
+        let count = printed(self.sheet, coeffs, out);
+        trial.called(count == Ok(self.output.len()) && out.starts_with(self.output));
+    }
+
+    fn prints<R: Read + Drop>(self, trial: &mut Trial<R>) {
+        let mut coeffs = [0.0; 16384];
+        let mut out = [0; 302240];
+        self.prints_into(trial, &mut coeffs, &mut out);
+    }
+
+    // What is printed, the number and place, and two builds.
+    fn serves<R: Read + Drop>(self, trial: &mut Trial<R>) {
+        self.prints(trial);
+        placed(trial, self.sheet, sheet::read_place(self.sheet));
+        builds(trial, self.sheet);
+        builds(trial, self.sheet);
+    }
 }
 
 // There is room for a text that is too long by one byte, and for the longest output.
@@ -79,7 +87,11 @@ fn trial_in<R: Read + Drop>(
     let length = trial.input.bytes(sheet, n);
     let n = trial.input.count();
     let count = trial.input.bytes(output, n);
-    serves(trial, &sheet[..length], &output[..count]);
+    let served = Served {
+        sheet: &sheet[..length],
+        output: &output[..count],
+    };
+    served.serves(trial);
 }
 
 fn trial<R: Read + Drop>(trial: &mut Trial<R>) {
@@ -88,6 +100,7 @@ fn trial<R: Read + Drop>(trial: &mut Trial<R>) {
     trial_in(trial, &mut sheet, &mut output);
 }
 
+// (Each program stays with a main of its own, which names the step that is its own.)
 fn main(rt: HostRuntime) -> io::Result<()> {
     replay(&rt, rt.stdin(), |each| trial(each))
 }
