@@ -12,6 +12,7 @@ use build_shape::shape_questions;
 use rules::{BoundaryState, PathError, SplineInput};
 
 // B6: of a state, with the numbers beside it. A build's input has them apart, as C does, so a struct of both would be made for two calls.
+// (m stays a parameter: it comes from the order, and the numbers are axes * m only where this says yes.)
 #[tactic(auto, unfolding(rules::specs::Build::valid_state))]
 fn valid_state(axes: usize, m: usize, state: Option<BoundaryState>, numbers: &[f64]) -> bool
     requires { (axes ≤ 8) × (m ≤ 3) }

@@ -8,7 +8,8 @@ ghost use Rattle.build_shape.specs.Shape.{shape_questions};
 use questions::{size_questions, valid_axes};
 use rules::PathError;
 
-// The first no of the five is the refusal, of a waypoint list of so many numbers.
+// The first no of the five is the refusal, of a waypoint list of so many numbers. (The counts stay apart: of a build's input
+// these questions look at nothing else, and a struct of the four would be made for this call alone.)
 #[tactic(auto, using(crate::proofs::Shaped::by_size), unfolding(rules::specs::Questions::first_no))]
 pub fn shape_questions(
     order: usize,

@@ -10,6 +10,7 @@ use fused_near::Biased;
 use fused_words::SIGN;
 
 // A1, G2, R29, R30, R31: a * b + c with one rounding, as IEEE 754's fusedMultiplyAdd. A NaN has no bits to look at.
+// (The operands stay three floats, as crates/fused_general says.)
 pub fn mul_add(a: f64, b: f64, c: f64) -> f64
     ensures { result ≡ fused binary64 a b c }
 {

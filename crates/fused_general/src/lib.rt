@@ -78,7 +78,7 @@ fn of_operands(x: Operand, y: Operand, z: Operand) -> f64
 }
 
 // R30: a * b + c of finite operands. With a zero factor the product needs no rounding. A zero addend leaves
-// the rounded product, whose sign it must not change.
+// the rounded product, whose sign it must not change. (The operands stay three floats, as `general` says.)
 fn of_finite(a: f64, b: f64, c: f64) -> f64
     requires { (float_is_finite a ≡ true) × (float_is_finite b ≡ true) × (float_is_finite c ≡ true) }
     ensures { result ≡ fused binary64 a b c }
@@ -100,9 +100,9 @@ fn of_finite(a: f64, b: f64, c: f64) -> f64
 }
 
 // R31: a * b + c with one rounding, for all operands. With a factor that is not finite the product needs no
-// rounding. An infinite addend is the answer even where the product alone would overflow. The operands stay three
-// floats, as in Rust's mul_add: nothing ties them together. (It is not inlined, so that the common case, which callers inline, needs
-// few registers.)
+// rounding. An infinite addend is the answer even where the product alone would overflow. (The operands stay three
+// floats, as in Rust's mul_add: nothing ties them together, and a struct of them would be made at each call. It is not inlined, so that
+// the common case, which callers inline, needs few registers.)
 #[inline(never)]
 pub fn general(a: f64, b: f64, c: f64) -> f64
     ensures { result ≡ fused binary64 a b c }

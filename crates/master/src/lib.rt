@@ -3,8 +3,9 @@
 #![tactic(auto)]
 
 ghost use Rattle.std.specs.Prelude.{◌≡◌, length};
-ghost use Rattle.rules.specs.Master.{set_of, check_master, master_says};
+ghost use Rattle.rules.specs.Master.{check_master, master_says};
 ghost use Rattle.master_equations.specs.Segment.{Shaped};
+ghost use Rattle.master_questions.specs.Lists.{set_with};
 ghost use Rattle.master.specs.Pass.{pass_says};
 
 use master_equations::{MasterSegments, meets_start};
@@ -31,22 +32,10 @@ fn check_segments<const M: usize>(lists: MasterLists) -> Result<bool, PathError>
     Ok(good)
 }
 
-// A1, D1, M8, M9, M10: the check. It reads what it is given and writes nothing. The four lists stand apart, as in C.
-pub fn check_master(
-    order: usize,
-    waypoints: &[i64],
-    start: &[i64],
-    end: &[i64],
-    table: &[i64],
-) -> Result<bool, PathError>
-    ensures { master_says result ≡ check_master (set_of order waypoints.now start.now end.now table.now) }
+// A1, D1, M8, M9, M10: the check. It reads what it is given and writes nothing.
+pub fn check_master(order: usize, lists: MasterLists) -> Result<bool, PathError>
+    ensures { master_says result ≡ check_master (set_with order lists.entry) }
 {
-    let lists = MasterLists {
-        waypoints,
-        start,
-        end,
-        table,
-    };
     master_questions(order, lists)?;
     match order {
         3 => check_segments::<1>(lists),

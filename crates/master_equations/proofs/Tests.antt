@@ -1,6 +1,6 @@
 -- The tests of the equations, as the code makes them. Assumes nothing.
 use Rattle.std.specs.Prelude.{◌≡◌, Bool, true, false, cond, ◌&&◌, List, [], ◌∷◌, ℕ, zero, suc, ◌+◌, ◌-◌, ◌*◌, ◌^◌, ◌<◌, ◌≤◌, eqb, ℤ, length, take, drop}
-use Rattle.std.proofs.Common.{refl, sym, ap, ap₂, ◌∙◌, subst, arith, add-one}
+use Rattle.std.proofs.Common.{refl, sym, ap, ap₂, ◌∙◌, subst, arith, add-one, eq-eqb, ne_eqb}
 use Rattle.std.specs.Bool.{Decides}
 use Rattle.std.specs.Ordering.{int_eq}
 use Rattle.std.specs.Cmp.Lexicographic.{pointwise}
@@ -15,7 +15,7 @@ use mir.Val.{of_z, to_z, hbits}
 use Rattle.law_lists.specs.Lists.{every}
 use Rattle.rules.specs.Master.{same, at, at_end, coefficient, meets_start}
 use Rattle.law_lists.proofs.Lists.{and_assoc, part_inside}
-use Rattle.law_lists.proofs.Lent.{part_length}
+use Rattle.law_lists.proofs.Lent.{part_length, part_size}
 use Rattle.rules.proofs.Master.{same→eq, eq→same}
 use Rattle.master_numbers.proofs.Signed.{as_read}
 use Rattle.master_equations.specs.Segment.{Shaped, meets_at, segment_meets}
@@ -92,35 +92,53 @@ start_as_made m segments table start l =
     part_met table start 0 m (omega arith)
     ∙ every_alike m _ _ (λ r h. ap₂ same (ap (at table) (omega arith)) (ap (at start) (omega arith)))
 
--- of a segment, whose sums the code has in a list: it compares them with the end state or with what stands in the table
-module _ (m : ℕ) (w end table : List ℤ) (i : ℕ) (sums : List ℤ) (are : (r : ℕ) → r < 2 * m + 1 → at sums r ≡ at_end m table i r) where
-  -- the sums from r = 1 on against f 0, f 1, .., which stand in a list from a place on
-  at_end_lem : (count : ℕ) → count ≤ 2 * m → (numbers : List ℤ) (from : ℕ) (f : ℕ → ℤ) → from + count ≤ length numbers
-      → ((r : ℕ) → f r ≡ at numbers (from + r))
-      → every count (λ r. same (at_end m table i (suc r)) (f r)) ≡ meets_at sums (take count (drop from numbers))
-  at_end_lem count l numbers from f h e =
-      every_alike count _ _ (λ r h. ap₂ same (sym (are (suc r) (omega arith))) (e r)) ∙ sym (part_met sums numbers from count h)
-
-  -- where the left waypoint is met, the rest decides
-  pub rest_decides : same (at table (i * (2 * m + 2))) (at w i) ≡ true
-      → segment_meets m w end table i
-      ≡ (same (at sums 0) (at w (i + 1))
-      && cond (eqb (i + 2) (length w)) (every m (λ r. same (at_end m table i (suc r)) (at end r)))
-      (every (2 * m) (λ r. same (at_end m table i (suc r)) (coefficient m table (suc i) (suc r)))))
-  unfolding segment_meets
-  rest_decides f = rw (add-zero, f, add-one, are 0 (omega arith))
-
-  pub last : m ≤ length end → every m (λ r. same (at_end m table i (suc r)) (at end r)) ≡ meets_at sums (take m end)
-  last l = at_end_lem m (omega arith) end 0 _ (omega arith) (λ r. ap (at end) (omega arith))
-
-  pub joint : (i + 1) * (2 * m + 2) + 1 + 2 * m ≤ length table
-      → every (2 * m) (λ r. same (at_end m table i (suc r)) (coefficient m table (suc i) (suc r)))
-      ≡ meets_at sums (take (2 * m) (drop ((i + 1) * (2 * m + 2) + 1) table))
-  joint l = at_end_lem (2 * m) (omega arith) table _ _ l (λ r. ap (at table) (omega arith))
-
 -- where a segment follows, its coefficients stand in the table
 pub next_inside : {m i : ℕ} {w end table : List ℤ} → Shaped m w end table → i < length w - 1 → (i + 2 ≡ length w → ⊥)
     → (i + 1) * (2 * m + 2) + 1 + 2 * m ≤ length table
 next_inside {m} {i} {w} s l h =
     let inside : (i + 1) * (2 * m + 2) + (2 * m + 2) ≤ (length w - 1) * (2 * m + 2) = part_inside (2 * m + 2) (omega (arith, h)) in
     rw s.table_is (omega (arith, inside))
+
+-- The ways out of a segment's tests. The code has the sums in a list, and compares bits of numbers that fit: the left waypoint's, then the right one's, and
+-- then the sums from r = 1 on with the end state or with what stands in the table.
+module _ (m : ℕ) (w end table : List ℤ) (i : ℕ) where
+  pub left_differs : (of_z w64 (at table (i * (2 * m + 2))) ≡ of_z w64 (at w i) → ⊥) → false ≡ segment_meets m w end table i
+  unfolding segment_meets
+  left_differs h = rw (add-zero, bits_differ _ _ h)
+
+  module _ (sums : List ℤ) (are : (r : ℕ) → r < 2 * m + 1 → at sums r ≡ at_end m table i r)
+      (fits : mag (at table (i * (2 * m + 2))) < 2 ^ hbits w64) (fits_left : mag (at w i) < 2 ^ hbits w64)
+      (left : of_z w64 (at table (i * (2 * m + 2))) ≡ of_z w64 (at w i)) where
+    rest_decides : segment_meets m w end table i
+        ≡ (same (at sums 0) (at w (i + 1))
+        && cond (eqb (i + 2) (length w)) (every m (λ r. same (at_end m table i (suc r)) (at end r)))
+        (every (2 * m) (λ r. same (at_end m table i (suc r)) (coefficient m table (suc i) (suc r)))))
+    unfolding segment_meets
+    rest_decides = rw (add-zero, bits_same _ _ fits fits_left left, add-one, are 0 (omega arith))
+
+    pub right_differs : (of_z w64 (at sums 0) ≡ of_z w64 (at w (i + 1)) → ⊥) → false ≡ segment_meets m w end table i
+    right_differs h = rw (rest_decides, bits_differ _ _ h)
+
+    module _ (fits_sum : mag (at sums 0) < 2 ^ hbits w64) (fits_right : mag (at w (i + 1)) < 2 ^ hbits w64)
+        (right : of_z w64 (at sums 0) ≡ of_z w64 (at w (i + 1))) where
+      -- the sums from r = 1 on against f 0, f 1, .., which stand in a list from a place on
+      as_compared : (count : ℕ) → count ≤ 2 * m → (numbers : List ℤ) (from : ℕ) (f : ℕ → ℤ) → from + count ≤ length numbers
+          → ((r : ℕ) → f r ≡ at numbers (from + r))
+          → meets_at sums (take count (drop from numbers)) ≡ every count (λ r. same (at_end m table i (suc r)) (f r))
+      as_compared count l numbers from f h e =
+          part_met sums numbers from count h ∙ every_alike count _ _ (λ r h. ap₂ same (are (suc r) (omega arith)) (sym (e r)))
+
+      pub last_decides : {r : Bool} → i + 2 ≡ length w → m ≤ length end → r ≡ meets_at sums (take m end) → r ≡ segment_meets m w end table i
+      last_decides e l is =
+          is ∙ rw (rest_decides, bits_same _ _ fits_sum fits_right right, eq-eqb _ _ e)
+          (as_compared m (omega arith) end 0 _ (omega arith) (λ r. ap (at end) (omega arith)))
+
+      pub joint_decides : {r : Bool} → (i + 2 ≡ length w → ⊥) → Shaped m w end table → i < length w - 1
+          → r ≡ meets_at sums (take ((i + 1) * (2 * m + 2) + 1 + 2 * m - ((i + 1) * (2 * m + 2) + 1)) (drop ((i + 1) * (2 * m + 2) + 1) table))
+          → r ≡ segment_meets m w end table i
+      joint_decides h s l is =
+          rw part_size at is ∙ rw (rest_decides, bits_same _ _ fits_sum fits_right right, ne_eqb _ _ h)
+          (as_compared (2 * m) (omega arith) table _ _ (next_inside s l h) (λ r. ap (at table) (omega arith)))
+
+-- what the code's way through the tests goes by
+pub ruleset by_tests = (left_differs, right_differs, last_decides, joint_decides)

@@ -38,6 +38,7 @@ pub struct MasterSegments<'a, const M: usize> {
 
 impl<'a, const M: usize> MasterSegments<'a, M> {
     // R36, R37, R39, R40: segment i meets its equations.
+    #[tactic(auto, using(crate::proofs::Tests::by_tests))]
     pub fn equations_hold(self, i: usize) -> bool
         requires { (i < length self.waypoints.now - 1) × Summable M self.table.now i }
         ensures { result ≡ segment_meets M self.entry.waypoints.now self.entry.end.now self.entry.table.now i }

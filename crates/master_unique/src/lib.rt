@@ -22,7 +22,7 @@ pub fn both_yes(order: usize, one: MasterLists, other: MasterLists) -> Result<bo
         × (one.entry.start.now ≡ other.entry.start.now)
         × (one.entry.end.now ≡ other.entry.end.now)) }
 {
-    let first = check_master(order, one.waypoints, one.start, one.end, one.table)?;
-    let second = check_master(order, other.waypoints, other.start, other.end, other.table)?;
+    let first = check_master(order, one)?;
+    let second = check_master(order, other)?;
     Ok(first & second)
 }

@@ -1,4 +1,5 @@
-// The lookup: the segment that s falls in, and how far into it.
+// The lookup: the segment that s falls in, and how far into it. (Path and s stay two parameters: a struct of them would be made for one
+// lookup.)
 #![tactic(auto)]
 
 ghost use Rattle.std.specs.Prelude.{◌≡◌, ◌≤◌, false, is_nan};
@@ -42,9 +43,9 @@ fn count_as_float(n: u64) -> f64
 }
 
 // R23, R24, R25: the segment, and tau. The subtraction loses nothing: the rest has no more digits than x.
-fn located(segments: usize, x: SegmentUnits) -> SegmentTau
-    requires { (1 ≤ segments) × (segments ≤ 256) × (is_nan x.0 ≡ false) }
-    ensures { result ≡ Query.located segments x }
+fn located(path: PathRecord, x: SegmentUnits) -> SegmentTau
+    requires { Findable path × (is_nan x.0 ≡ false) }
+    ensures { result ≡ Query.located path.segments x }
 {
     if x.0 <= 0.0 {
         return SegmentTau {
@@ -52,10 +53,10 @@ fn located(segments: usize, x: SegmentUnits) -> SegmentTau
             tau: SegmentUnits(0.0),
         };
     }
-    let at_end = segments as f64 <= x.0;
+    let at_end = path.segments as f64 <= x.0;
     if at_end {
         return SegmentTau {
-            segment: segments - 1,
+            segment: path.segments - 1,
             tau: SegmentUnits(1.0),
         };
     }
@@ -76,5 +77,5 @@ pub fn segment_tau(path: PathRecord, s: PathParam) -> Result<SegmentTau, OutOfRa
     }
     let s = clamped(path, s);
     let scaled = SegmentUnits((s.0 - path.s_min.0) * path.inv_ds);
-    Ok(located(path.segments, scaled))
+    Ok(located(path, scaled))
 }

@@ -25,7 +25,7 @@ impl<'a> SplinePath<'a> {
         SplinePath { path, coeffs }
     }
 
-    // A1, F7: the query, of this path.
+    // A1, F7: the query, of this path. (The level stays a number, as crates/query says.)
     pub fn eval_at(self, s: PathParam, level: u8, buffers: &mut Buffers) -> Result<(), PathError>
         ensures queried { Queried (query_of self.entry.path self.entry.coeffs.now s level)
             (behind buffers.old)
@@ -37,7 +37,7 @@ impl<'a> SplinePath<'a> {
     }
 }
 
-// A1: the query for a caller that holds a record and coefficients: its parameters are plain.
+// A1: the query for a caller that holds a record and coefficients: its parameters stay plain, as those of crates/query.
 pub fn eval_path(
     path: PathRecord,
     coeffs: &[f64],

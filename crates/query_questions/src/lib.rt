@@ -48,7 +48,8 @@ fn path_questions(path: PathRecord, cells: usize) -> Result<(), PathError>
     Ok(())
 }
 
-// G4: the first no is the refusal; where all but the last question say yes, the level is handed on.
+// G4: the first no is the refusal; where all but the last question say yes, the level is handed on. (The level stays a number beside the
+// path: a caller gives any, and here it becomes a `Level` or is refused.)
 #[tactic(auto, unfolding(rules::specs::Questions::first_no, rules::specs::Query::buffer_questions))]
 pub fn query_questions(
     path: PathRecord,

@@ -1,12 +1,12 @@
 -- A derivative by fused steps, as code finds it: step by step, of coefficients that it reads. Assumes nothing.
-use mathlib.Core.Path.{◌≡◌, refl, ap, ◌∙◌}
+use mathlib.Core.Path.{◌≡◌, refl, sym, ap, ◌∙◌}
 use mathlib.Core.Bool.{Bool, true, false, cond}
-use mathlib.Core.List.{List, [], ◌∷◌}
-use Prim.Native.Nat.{ℕ, suc, ◌+◌, ◌-◌, ◌<◌}
+use mathlib.Core.List.{List, [], ◌∷◌, ◌++◌}
+use Prim.Native.Nat.{ℕ, suc, ◌+◌, ◌-◌}
 use native.Mathlib.Omega.{arith}
 use lib.Dec.{eqb}
-use lib.ListN.{length, get_or, drop, drop_of_length-le}
-use lib.Seq.{drop-cons}
+use lib.ListN.{length, get_or, take}
+use lib.Seq.{take-suc, take_all}
 use lib.Ieee.{Float, nan, binary64}
 use Rattle.rules.specs.Floats.{◌⊗◌, +0, of_count}
 use Rattle.law_lists.specs.Lists.{listed}
@@ -27,21 +27,19 @@ unfolding fused_steps
 is_found last = refl
 is_found {t} (step {x = x} e h) = e ∙ ap (λ (s : Float). fused binary64 s t x) (is_found h)
 
--- the same in a list that is there: the last term, and a term before others
-pub from_last : (t : Float) (xs : List Float) (k : ℕ) → suc k ≡ length xs → fused_steps t (drop k xs) ≡ get_or xs k nan
-unfolding fused_steps
-from_last t xs k e =
-    let none : drop (suc k) xs ≡ [] = drop_of_length-le xs {i = suc k} (omega arith) in
-    let l : k < length xs = omega arith in
-    rw (drop-cons xs k nan l, none)
+-- of terms that are there the last one is found, after the others
+pub last_found : (t : Float) (xs : List Float) (n : ℕ) → suc n ≡ length xs → fused_steps t xs ≡ fused_steps t (take n xs ++ (get_or xs n nan ∷ []))
+last_found t xs n e =
+    let all : take (suc n) xs ≡ xs = take_all (suc n) xs (omega arith) in
+    ap (fused_steps t) (sym all ∙ take-suc xs n nan (omega arith))
 
-pub from_next : (t : Float) (xs : List Float) (k next : ℕ) → next ≡ suc k → next < length xs
-    → fused_steps t (drop k xs) ≡ fused binary64 (fused_steps t (drop next xs)) t (get_or xs k nan)
+-- of what is found of the last terms and of the term before them a step is found
+pub one_more : (t : Float) (rest : List Float) (x found : Float)
+    → fused_steps t (rest ++ (x ∷ (found ∷ []))) ≡ fused_steps t (rest ++ (fused binary64 found t x ∷ []))
 unfolding fused_steps
-from_next t xs k next e l =
-    let here : k < length xs = omega arith in
-    let inside : suc k < length xs = omega arith in
-    rw (e, drop-cons xs k nan here, drop-cons xs (suc k) nan inside)
+one_more t [] x found = refl
+one_more t (a ∷ []) x found = refl
+one_more t (a ∷ (b ∷ rest)) x found = ap (λ (s : Float). fused binary64 s t a) (one_more t (b ∷ rest) x found)
 
 -- a term, as code reads its coefficient
 abbrev term_read : List Float → ℕ → ℕ → Float

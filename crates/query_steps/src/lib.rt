@@ -1,5 +1,5 @@
 // The evaluation of a segment of order 3 and of one of order 5: each position and derivative by fused steps, those that the level
-// asks for.
+// asks for. (Level, coefficients and t stay three parameters: a struct of them would be made for each axis and taken apart at once.)
 #![tactic(auto)]
 
 ghost use Rattle.std.specs.Prelude.{◌≡◌, ◌≤◌, length};
@@ -17,8 +17,8 @@ fn fused_steps<const N: usize>(t: f64, terms: [f64; N]) -> f64
     ensures { result ≡ fused_steps t terms.entry }
 {
     let mut found = terms[N - 1];
-    for k in (0..N - 1).rev() {
-        found = mul_add(found, t, terms[k]);
+    for &term in terms[..N - 1].iter().rev() {
+        found = mul_add(found, t, term);
     }
     found
 }

@@ -40,7 +40,8 @@ pub fn size_questions(order: usize, points: usize) -> Result<(), PathError>
     Ok(())
 }
 
-// B4: "1 to 8 axes?"
+// B4: "1 to 8 axes?" (The 8 of crates/sheet_axes stays a constant of its own: it is how far the grammar of a job sheet goes, and one for
+// both would make the reader of sheets lean on the questions before a build.)
 const MOST_AXES: usize = 8;
 
 // B4, Q4: are there 1 to 8 axes?
@@ -52,7 +53,7 @@ pub fn valid_axes(axes: usize) -> bool
 }
 
 // B8, Q6: inv_ds, how many segments come to a unit of s. The two ends stand in a config or in a path, so a struct of both would be made
-// for this call and the next alone.
+// for this call and the next alone. (That there are at most 256 segments stays asked: without it the cast is not proved to lose nothing.)
 #[tactic(auto, unfolding(rules::specs::Build::inv_ds_of))]
 pub fn inv_ds(segments: usize, s_min: PathParam, s_max: PathParam) -> f64
     requires { segments ≤ 256 }

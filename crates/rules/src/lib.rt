@@ -21,7 +21,8 @@ pub enum OutOfRangeMode {
 }
 
 // B12: a boundary state that is given: so many rows (axes) and columns (numbers of a node). A state that is none is all zero.
-// The numbers are a slice beside it, column-major, and nobody looks at it where the state is none.
+// The numbers are a slice beside it, column-major, and nobody looks at it where the state is none. (The mark stays a bool, whose name says
+// what yes means: an enum of two would make the one `if` that asks it a `match`, and give the rule that divides by inv_ds two cases.)
 #[derive(Clone, Copy)]
 pub struct BoundaryState {
     pub rows: usize,
@@ -40,7 +41,8 @@ pub struct SplineConfig {
     pub end_state: Option<BoundaryState>,
 }
 
-// What a build is given, the coefficient buffer aside: the waypoints, column-major, and the numbers of both states.
+// What a build is given, the coefficient buffer aside: the waypoints, column-major, and the numbers of both states. (The count of points
+// stays beside the lists, since question B5 compares it with the waypoints' length, and a caller may give any two.)
 #[derive(Clone, Copy)]
 pub struct SplineInput<'a> {
     pub config: SplineConfig,
@@ -86,12 +88,13 @@ impl From<PathError> for u32 {
 
     ghost from_gives = { λ error number. number ≡ number_of error };
 
+    // (The number stays a u32, since C is answered with it.)
     fn from(error: PathError) -> u32 {
         error as u32
     }
 }
 
-// F11: the number that an answer stands for: 0 where the call is served, else the refusal's.
+// F11: the number that an answer stands for: 0 where the call is served, else the refusal's. (It stays a u32, as C gets it.)
 pub fn number_answered<T: Copy>(answer: Result<T, PathError>) -> u32
     ensures { result ≡ number_answered answer }
 {
@@ -130,8 +133,8 @@ pub struct SheetError {
 }
 
 // N2: what is kept of a number on a sheet that is read in pieces: the place where it began and the next one, the size of its digits,
-// how far it is and whether a minus was read. These are numbers alone, so a caller can hand over one that no reading makes; what
-// becomes of it is in specs/SheetNumbers.antt.
+// how far it is and whether a minus was read. All stay numbers, since the record crosses to C and back as it is: so a caller can hand over
+// one that no reading makes, and what becomes of it is in specs/SheetNumbers.antt.
 #[repr(C)]
 #[derive(Clone, Copy, PartialEq, Eq)]
 pub struct NumberReading {
@@ -142,7 +145,8 @@ pub struct NumberReading {
     pub minus: u8,
 }
 
-// N1: 0, the place after a number that was read, and its worth; or a refusal's number and place, and a worth of 0.
+// N1: 0, the place after a number that was read, and its worth; or a refusal's number and place, and a worth of 0. (The number stays
+// beside the others, since the record crosses to C as it is, which has no enums with values.)
 #[repr(C)]
 #[derive(Clone, Copy)]
 pub struct NumberAnswer {

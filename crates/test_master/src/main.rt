@@ -3,6 +3,7 @@
 // the names of sets of which a check was answered otherwise, and how many checks there were.
 #![tactic(auto)]
 
+use master_questions::lists::MasterLists;
 use std::io;
 use std::io::Read;
 use test_common::seen::{Trial, replay};
@@ -32,7 +33,13 @@ fn check(order: usize, n: Lengths, numbers: &[i64]) -> u32 {
     let (start, rest) = rest.split_at(n.start.min(rest.len()));
     let (end, rest) = rest.split_at(n.end.min(rest.len()));
     let table = &rest[..n.table.min(rest.len())];
-    match master::check_master(order, waypoints, start, end, table) {
+    let lists = MasterLists {
+        waypoints,
+        start,
+        end,
+        table,
+    };
+    match master::check_master(order, lists) {
         Ok(good) => u32::from(good),
         Err(error) => u32::from(error),
     }

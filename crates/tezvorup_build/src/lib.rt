@@ -9,7 +9,8 @@ ghost use Rattle.tezvorup_records.specs.Meaning.{config_of, answer_of};
 use rules::{SplineConfig, SplineInput};
 use tezvorup_records::{RawAnswer, RawConfig};
 
-// A1: the build (document 01, modules 2 to 5). The coefficients are written where the number answered is 0.
+// A1: the build (document 01, modules 2 to 5). The coefficients are written where the number answered is 0. (The parameters stay loose, as
+// the header has them for C, and are put into an input here and in crates/tezvorup_preview: a function for both would take them all again.)
 #[unsafe(no_mangle)]
 pub extern "C" fn spline_build(
     config: RawConfig,

@@ -6,9 +6,11 @@ ghost use Rattle.std.specs.Prelude.{◌≡◌};
 ghost use Rattle.rules.specs.Master.{set_of, check_master};
 ghost use Rattle.tezvorup_records.specs.Meaning.{check_of};
 
+use master_questions::lists::MasterLists;
 use tezvorup_records::RawCheck;
 
-// A1, M8: the check of masters (document 01, module 7), over one axis in whole numbers.
+// A1, M8: the check of masters (document 01, module 7), over one axis in whole numbers. (The lists stay apart, as the header has them
+// for C.)
 #[unsafe(no_mangle)]
 pub extern "C" fn spline_check_master(
     order: usize,
@@ -20,5 +22,11 @@ pub extern "C" fn spline_check_master(
     ensures { let set = set_of order waypoints.now start.now end.now table.now in
         result ≡ check_of (check_master set) }
 {
-    RawCheck::from(master::check_master(order, waypoints, start, end, table))
+    let lists = MasterLists {
+        waypoints,
+        start,
+        end,
+        table,
+    };
+    RawCheck::from(master::check_master(order, lists))
 }

@@ -9,7 +9,7 @@ ghost use Rattle.tezvorup_records.specs.Meaning.{config_of, answer_of};
 use rules::{SplineConfig, SplineInput};
 use tezvorup_records::{RawAnswer, RawConfig};
 
-// A1, V1, V2, V7: the preview. The coefficients are a count alone.
+// A1, V1, V2, V7: the preview. The coefficients are a count alone. (The parameters stay loose, as crates/tezvorup_build says.)
 #[unsafe(no_mangle)]
 pub extern "C" fn spline_preview(
     config: RawConfig,

@@ -10,7 +10,7 @@ use rules::{PathParam, PathRecord, number_answered};
 use tezvorup_records::RawPath;
 
 // A1: the query (document 01, module 6). The buffers are written where the answer is 0, and of those the ones that the level
-// writes.
+// writes. (The eight parameters, the level and the answer stay as the header has them for C.)
 #[unsafe(no_mangle)]
 pub extern "C" fn spline_query(
     path: RawPath,

@@ -1,5 +1,6 @@
-// The records that cross the boundary to C, field for field as include/tezvorup.h has them, and what they are made from and into. What
-// they stand for is in specs/; what holds of them, with the numbers that each export can answer, in crates/theorem_records.
+// The records that cross the boundary to C, field for field as include/tezvorup.h has them, and what they are made from and into. So kinds,
+// modes and answers stay numbers in them. What they stand for is in specs/; what holds of them, with the numbers that each export can
+// answer, in crates/theorem_records.
 #![tactic(auto)]
 
 ghost use Rattle.std.specs.Prelude.{◌≡◌};
@@ -80,10 +81,11 @@ pub struct RawSheet {
     pub path: RawPath,
 }
 
-// A1: the number of mode Clamp.
+// A1: the number of mode Clamp. (It stays a constant of its own: the 1 of crates/number_byte is a minus that was read.)
 const CLAMP: u8 = 1;
 
-// What a query does outside the range, by its number. (Neither type is this crate's, so this is no `From`.)
+// What a query does outside the range, by its number. (It stays a function: neither type is this crate's, so a `From` would have to stand
+// in crates/rules, which knows nothing of C's modes.)
 pub fn mode_of(mode: u8) -> OutOfRangeMode
     ensures { result ≡ mode_of mode }
 {

@@ -19,25 +19,25 @@ returns-then-at_end c = rw (c.if-x.false, c.if-at_end.true)
 
 pub truncating_f64_to_u64-whole-requires-clause-lower_bound : goal.truncating_f64_to_u64-whole-requires-clause-lower_bound
 unfolding of_bits
-truncating_f64_to_u64-whole-requires-clause-lower_bound c = above_minus_one (between _ c.requires.1 c.requires.2 c.if-x.false c.if-at_end.false)
+truncating_f64_to_u64-whole-requires-clause-lower_bound c = above_minus_one (between _ c.requires.0.few c.requires.1 c.if-x.false c.if-at_end.false)
 
 pub truncating_f64_to_u64-whole-requires-clause-upper_bound : goal.truncating_f64_to_u64-whole-requires-clause-upper_bound
 unfolding of_bits
 truncating_f64_to_u64-whole-requires-clause-upper_bound c =
-    below_power 64 (le_trans c.requires.1 (lit≤ tt)) (between _ c.requires.1 c.requires.2 c.if-x.false c.if-at_end.false)
+    below_power 64 (le_trans c.requires.0.few (lit≤ tt)) (between _ c.requires.0.few c.requires.1 c.if-x.false c.if-at_end.false)
 
 pub count_as_float-requires : goal.count_as_float-requires
 unfolding of_bits
 count_as_float-requires c =
-    let i = between c.args.x.0 c.requires.1 c.requires.2 c.if-x.false c.if-at_end.false in
-    rw (c.truncating_f64_to_u64-whole.ensures, truncation 64 (le_trans c.requires.1 (lit≤ tt)) i) (le_trans (le_of_lt (whole_below i)) c.requires.1)
+    let i = between c.args.x.0 c.requires.0.few c.requires.1 c.if-x.false c.if-at_end.false in
+    rw (c.truncating_f64_to_u64-whole.ensures, truncation 64 (le_trans c.requires.0.few (lit≤ tt)) i) (le_trans (le_of_lt (whole_below i)) c.requires.0.few)
 
 pub returns : goal.returns
 unfolding located of_bits
 returns c =
     let x = c.args.x.0 in
-    let i = between x c.requires.1 c.requires.2 c.if-x.false c.if-at_end.false in
+    let i = between x c.requires.0.few c.requires.1 c.if-x.false c.if-at_end.false in
     let known : T (fits binary64 x) = search rules in
     let whole : c.truncating_f64_to_u64-whole.result ≡ whole_part x =
-    c.truncating_f64_to_u64-whole.ensures ∙ truncation 64 (le_trans c.requires.1 (lit≤ tt)) i in
+    c.truncating_f64_to_u64-whole.ensures ∙ truncation 64 (le_trans c.requires.0.few (lit≤ tt)) i in
     rw (c.if-x.false, c.if-at_end.false, c.count_as_float.ensures, whole, rest_exact x known i.above)

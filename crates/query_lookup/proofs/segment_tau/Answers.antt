@@ -15,7 +15,7 @@ pub located-requires : goal.located-requires
 unfolding scaled
 located-requires c =
     let inside : in_range c.args.path.mode c.args.path.s_min c.args.path.s_max c.args.s ≡ true = sym c.in_range.ensures ∙ c.if-not-in_range.false in
-    (c.requires.some, c.requires.few, rw c.clamped-s.ensures (scaled_is_a_number c.args.path c.args.s c.requires.range inside))
+    (c.requires, rw c.clamped-s.ensures (scaled_is_a_number c.args.path c.args.s c.requires.range inside))
 
 pub returns : goal.returns
 unfolding lookup scaled

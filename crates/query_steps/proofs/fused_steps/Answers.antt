@@ -1,17 +1,22 @@
--- The last term, and a term before those that are found. Assumes nothing.
-use Rattle.std.proofs.Common.{◌≡◌, ◌-◌, ◌∙◌, sym, arith}
-use Rattle.query_steps.proofs.FusedSteps.{from_last, from_next}
+-- The last term, a term before what is found, and no term that is left. Assumes nothing.
+use Rattle.std.proofs.Common.{◌≡◌, ◌-◌, [], ◌∙◌, sym, arith, append_assoc}
+use Rattle.std.proofs.lemmas.List.{nil_from_length}
+use Rattle.rules.specs.Query.{fused_steps}
+use Rattle.query_steps.proofs.FusedSteps.{last_found, one_more}
 use Rattle.query_steps.proofs.fused_steps.Goals as goal
 
-pub loop-k-init : goal.loop-k-init
-loop-k-init g c = sym (from_last c.args.t c.args.terms _ (omega arith))
+pub loop-term-init : goal.loop-term-init
+loop-term-init g c =
+    last_found c.args.t c.args.terms (g.row.N - 1) (omega arith)
+    ∙ rw (c.into_iter-term-iterator.ensures.into_iter_gives, c.rev-term-items.ensures.source, c.iter.ensures.rest)
 
-pub loop-k-preserved : goal.loop-k-preserved
-loop-k-preserved g c =
-    c.mul_add-found.ensures
-    ∙ rw c.loop-k.invariant (sym (from_next c.args.t c.args.terms (c.loop-k.k - 1) c.loop-k.k (omega arith) (omega arith)))
+pub loop-term-preserved : goal.loop-term-preserved
+loop-term-preserved g c =
+    c.loop-term.invariant
+    ∙ rw (c.in-Some.ensures.steps, c.mul_add-found.ensures, append_assoc) (one_more c.args.t _ _ _)
 
 pub returns : goal.returns
+unfolding fused_steps
 returns g c =
-    let none : c.loop-k.k ≡ 0 = omega arith in
-    rw none at c.loop-k.invariant
+    let none : c.loop-term.term-iterator.iter.rest.now ≡ [] = nil_from_length _ c.in-None.ensures.steps.0 in
+    sym (rw none at c.loop-term.invariant)

@@ -1,7 +1,7 @@
--- What is found of the terms from k on. Assumes nothing.
-use Rattle.std.proofs.Common.{◌≡◌, drop}
+-- The steps of all terms are those of the terms that are left, and of what is found after them. Assumes nothing.
+use Rattle.std.proofs.Common.{◌≡◌, ◌++◌, ◌∷◌, []}
 use Rattle.rules.specs.Query.{fused_steps}
 use Rattle.query_steps.proofs.fused_steps.Given as goal
 
-abbrev pub invariant-loop-k : goal.invariant-loop-k
-invariant-loop-k g l = l.found ≡ fused_steps l.t (drop l.k l.terms)
+abbrev pub invariant-loop-term : goal.invariant-loop-term
+invariant-loop-term g l = fused_steps l.t l.fn.terms ≡ fused_steps l.t (l.term-iterator.iter.rest.now ++ (l.found ∷ []))
