@@ -5,7 +5,7 @@
 ghost use Rattle.std.specs.Prelude.{◌≡◌, ◌+◌, ◌*◌, ◌≤◌, length};
 ghost use Rattle.theorem_pivots.specs.Repeating.{distinct};
 ghost use Rattle.build_nodes.specs.NodeLists.{Room};
-ghost use Rattle.build_filling.specs.AllAxes.{all_axes};
+ghost use Rattle.build_filling.specs.AllAxes.{cells_of, all_axes};
 
 use build_filling::fill_axes;
 use build_nodes::factor_nodes;
@@ -15,6 +15,8 @@ use build_sweeps::NodeMatrices;
 
 // Z3: the matrices that differ are factored once, for all axes, into the lists that are lent for them. No pivot is zero
 // (`PivotsAreNeverZero` of crates/theorem_pivots), so nothing is refused here.
+// (The three lists of the nodes stay three: they are lent to factoring as `&mut` and then held by `NodeMatrices` as `&`, and a struct of
+// the three would only be taken apart for both. Plan and buffer stay two, as crates/build_table says.)
 pub fn solve_general_thomas(
     plan: &Plan,
     entries: &mut [f64],
@@ -23,7 +25,7 @@ pub fn solve_general_thomas(
     solved: &mut [f64],
     coeffs: &mut [f64],
 )
-    requires { (length coeffs.old ≡ plan.now.axes * ((plan.now.n + 1) * (2 * plan.now.m + 2)))
+    requires { (length coeffs.old ≡ cells_of plan.now)
         × Room plan.now.m (distinct plan.now.m plan.now.n) entries.old rows.old solved_c.old
         × (plan.now.n * plan.now.m ≤ length solved.old) }
     ensures { coeffs.new ≡ all_axes plan.now }

@@ -1,6 +1,7 @@
 // "Factoring (Golub and Van Loan, partial pivoting)" in place: the upper factor on and above the
 // diagonal, the multipliers below it, and beside them which row of the matrix each row was.
-// The matrix stays a list beside its m, as in crates/build_pivots, and for the same reason.
+// The matrix stays a list beside its m, and its length and that a row is below m stay clauses, as crates/build_pivots says: with a struct
+// that lends the list as `&mut`, `eliminate_row` and `eliminate` would promise too that m and the list are still the same.
 #![tactic(auto)]
 
 ghost use Rattle.std.specs.Prelude.{◌≡◌, ◌+◌, ◌-◌, ◌*◌, ◌<◌, List, [], length, Float};
@@ -37,6 +38,7 @@ fn eliminate(m: usize, a: &mut [f64], k: usize)
 }
 
 // The matrix factored in place. A zero pivot would stop nothing: the steps go on as the rules of floats say.
+// (R13's rows stay a list of numbers, as crates/build_pivots says.)
 pub fn factor(m: usize, a: &mut [f64], rows: &mut [usize])
     requires { (length a.old ≡ m * m) × (length rows.old ≡ m) }
     ensures { (a.new ≡ (factor m a.old).entries)

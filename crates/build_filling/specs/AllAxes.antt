@@ -28,9 +28,13 @@ axis_table p axis = axis_coefficients p.m p.n (waypoints_of p axis) (end_numbers
 abbrev pub all_axes : Plan → List Float
 all_axes p = joined p.axes (axis_table p)
 
+-- how many coefficients they have
+abbrev pub cells_of : Plan → ℕ
+cells_of p = p.axes * ((p.n + 1) * (2 * p.m + 2))
+
 -- the nodes' matrices are those of the plan, and there is room for an axis's numbers and for all coefficients
 pub record FillLent (p : Plan) (nodes : NodeMatrices) (solved coeffs : List Float) : Type 0 where
   pub of_m : nodes.tables.now.m ≡ p.m
   pub of_n : nodes.n ≡ p.n
   pub solved_room : p.n * p.m ≤ length solved
-  pub cells : length coeffs ≡ p.axes * ((p.n + 1) * (2 * p.m + 2))
+  pub cells : length coeffs ≡ cells_of p

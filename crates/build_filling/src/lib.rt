@@ -5,9 +5,9 @@
 ghost use Rattle.std.specs.Prelude.{◌≡◌, ◌+◌, ◌≤◌, ◌<◌, length};
 ghost use Rattle.build_filling.specs.AllAxes.{BothEnds, FillLent, all_axes};
 
-use build_plan::{BoundaryNumbers, Plan};
+use build_plan::Plan;
 use build_rhs::AxisWaypoints;
-use build_sweeps::NodeMatrices;
+use build_sweeps::{Axis, NodeMatrices};
 use build_thomas::thomas_row;
 
 // B12: the m numbers of an axis's first node, and then those of its last: of the start state, and of the end state.
@@ -25,29 +25,28 @@ fn both_ends(plan: &Plan, axis: usize, numbers: &mut [f64])
 }
 
 // B14: all axes, one after the other, in the place of what the buffer held.
+// (Plan and buffer stay two parameters, as crates/build_table says.)
 pub fn fill_axes(plan: &Plan, nodes: &NodeMatrices, solved: &mut [f64], coeffs: &mut [f64])
     requires { FillLent plan.now nodes.now solved.old coeffs.old }
     ensures { coeffs.new ≡ all_axes plan.now }
 {
-    let m = plan.m;
-    let n = plan.n;
     let axes = plan.axes;
     let waypoints = plan.waypoints;
-    let stride = (n + 1) * (2 * m + 2);
+    let stride = (plan.n + 1) * (2 * plan.m + 2);
     for axis in 0..axes {
         let at = axis * stride;
         let mut numbers = [0.0; 6];
         both_ends(plan, axis, &mut numbers);
-        let ends = BoundaryNumbers {
-            m,
-            n,
-            numbers: &numbers,
-        };
         let points = AxisWaypoints {
             axes,
             axis,
             waypoints,
         };
-        thomas_row(nodes, points, ends, solved, &mut coeffs[at..at + stride]);
+        let own = Axis {
+            nodes: &*nodes,
+            points,
+            numbers: &numbers,
+        };
+        thomas_row(&own, solved, &mut coeffs[at..at + stride]);
     }
 }

@@ -2,13 +2,16 @@
 // once found, its products are subtracted one at a time from the rows still to be solved". What each function does is said by the
 // definitions of crates/rules/specs/Solve.antt, for every m.
 //
-// That a right side is as long as the matrix stays a clause: it joins two values, and no type of one of them holds it.
+// That a right side has m numbers stays a clause: it joins the matrix and a list that is a part of a longer one, and a struct of both
+// would hold a `&mut`, whose methods would promise too that it still lends the same list (crates/build_pivots).
 #![tactic(auto)]
 
 ghost use Rattle.std.specs.Prelude.{◌≡◌, ◌*◌, ◌<◌, length};
 ghost use Rattle.build_products.specs.Columns.{Below};
 
 // A factored matrix of m rows, lent to be solved with: its entries, and which row of the matrix each row was.
+// (The rows stay a list of numbers, as crates/build_pivots says; and m stays beside the lists: as `rows.len()` it would stand in each
+// promise as `length rows.now`, where the definitions say m.)
 #[derive(Clone, Copy)]
 pub struct Factored<'a> {
     pub m: usize,
@@ -24,7 +27,7 @@ impl Factored<'_> {
     ghost use Rattle.rules.specs.Solve.{forward};
     ghost use Rattle.build_forward.specs.Steps.{factors_of, forward_step};
 
-    // The right side with its rows exchanged: what is read goes by the rows, and no method of a slice copies so.
+    // The right side with its rows exchanged. (It stays a loop: what is read goes by the rows, and no method of a slice copies so.)
     fn exchange_rows(&self, b: &[f64], out: &mut [f64])
         requires { (length b.now ≡ self.now.m) × (length out.old ≡ self.now.m) }
         ensures { out.new ≡ forward self.now.m (factors_of self.now) b.now 0 }
@@ -35,6 +38,8 @@ impl Factored<'_> {
     }
 
     // R16, R18: the number of row k is found: its products are subtracted from the rows below.
+    // (It stays a loop over i: column k's entries stand m apart, and without i the loop would go over
+    // `y[k + 1..].iter_mut().zip(self.entries[k..].iter().step_by(self.m).skip(k + 1))`.)
     fn forward_step(&self, k: usize, y: &mut [f64])
         requires { (k < self.now.m) × (length y.old ≡ self.now.m) }
         ensures { y.new ≡ forward_step self.now.m self.now.entries.now y.old k }

@@ -2,8 +2,8 @@
 // and solved with by crates/build_solving. What each function does is said by the definitions of
 // crates/rules/specs/Solve.antt, for every m.
 //
-// What is filled stays a parameter beside the tables, and the three lists of the nodes stay three: each is lent and comes back by
-// itself, and a struct of them would be made anew, and taken apart again, at each call.
+// What is filled stays a parameter beside the tables, and the three lists of the nodes stay three: each call lends another part, as
+// `&mut out[at..at + m]`, so a struct of the tables and that part would be made for the one call, and taken apart in it again.
 #![tactic(auto)]
 
 ghost use Rattle.std.specs.Prelude.{◌≡◌, ◌+◌, ◌*◌, ◌≤◌, ◌<◌, ◌++◌, length, drop};
@@ -59,6 +59,8 @@ fn node_entries(tables: &BlockMatrices, i: usize, solved: &[f64], out: &mut [f64
 }
 
 // R10: inner node i is factored, and C is solved with it.
+// (The node's place and the list of all nodes stay two parameters: the place is another at each call, so a struct of both would be made
+// anew for each node. The rows stay a list of numbers, as crates/build_pivots says.)
 fn factor_node(
     tables: &BlockMatrices,
     i: usize,
@@ -84,7 +86,8 @@ fn factor_node(
     build_solving::solve_matrix(&factored, tables.c, &mut solved[at..at + m * m]);
 }
 
-// The inner nodes 0 to n − 1, one after the other. The lists may have room for more than n.
+// The inner nodes 0 to n − 1, one after the other. (n stays a parameter: it is no length, since the lists may have room for more than n.
+// The rows stay a list of numbers, as crates/build_pivots says.)
 pub fn factor_nodes(
     tables: &BlockMatrices,
     n: usize,

@@ -1,8 +1,10 @@
 // The pivots of a matrix of m rows, and the exchange of its rows: of module 4 of document 01, below factoring. What each function
 // does is said by the definitions of crates/rules/specs/Solve.antt, for every m.
 //
-// The matrix stays a list beside its m: a struct that holds a `&mut` list would ask each call to say that m is still the same, in the
-// place of how long the list is. That a row is below m joins two values, and no type of one of them holds it.
+// The matrix stays a list beside its m, and its length and that a row is below m stay clauses. Tried here: a struct that holds m and the
+// list as `&mut`, with the length as its ghost field. The clause on the length goes, and each method that changes an entry has two in its
+// place, `self.new.m ≡ self.old.m` and `self.new.a.ghost_name ≡ self.old.a.ghost_name`, since its caller knows neither without them;
+// `k < m` is there as before, since it joins the matrix and another value.
 #![tactic(auto)]
 
 ghost use Rattle.std.specs.Prelude.{◌≡◌, suc, ◌+◌, ◌-◌, ◌*◌, ◌≤◌, ◌<◌, length};
@@ -33,7 +35,8 @@ pub fn exchange_entries(m: usize, a: &mut [f64], k: usize, p: usize)
     }
 }
 
-// Each row is its own at the start: R13's list of rows is one of numbers, as in the definitions.
+// Each row is its own at the start. (R13's rows stay a list of numbers, as in the definitions: which row of the matrix each row was is a
+// permutation, and one kept as pairs or as exchanges would be numbers of rows too.)
 pub fn identity(rows: &mut [usize])
     ensures { rows.new ≡ listed (length rows.old) (λ i. i) }
 {

@@ -7,9 +7,11 @@ ghost use Rattle.build_plan.specs.Given.{HasNumbers, first_of, last_of};
 
 pub mod states;
 
+use build_tables::BlockMatrices;
 use states::EndState;
 
 // What a build goes by, as its questions have found it: m, the inner nodes, the axes, inv_ds, the waypoints of all axes, and both states.
+// (n stays beside the waypoints: it is no length, and read off theirs it would be `waypoints.len() / axes - 2`.)
 #[derive(Clone, Copy)]
 pub struct Plan<'a> {
     pub m: usize,
@@ -28,27 +30,29 @@ pub struct Plan<'a> {
     pub ghost end_numbers: { HasNumbers axes m end },
 }
 
-// F5: of an axis with n inner nodes, the m numbers of its first node and then those of its last.
+// F5: of an axis with n inner nodes, the m numbers of its first node and then those of its last, where m is that of the tables.
+// (n stays beside the numbers: it is no length of theirs, but tells which node is the last.)
 #[derive(Clone, Copy)]
 pub struct BoundaryNumbers<'a> {
-    pub m: usize,
+    pub tables: &'a BlockMatrices,
     pub n: usize,
     pub numbers: &'a [f64],
-    pub ghost both: { m + m ≤ length numbers.now },
+    pub ghost both: { tables.now.m + tables.now.m ≤ length numbers.now },
 }
 
 impl<'a> BoundaryNumbers<'a> {
     // The first node's.
     pub fn first(self) -> &'a [f64]
-        ensures { result.now ≡ first_of self.entry.m self.entry.numbers.now }
+        ensures { result.now ≡ first_of self.entry.tables.now.m self.entry.numbers.now }
     {
-        &self.numbers[..self.m]
+        &self.numbers[..self.tables.m]
     }
 
     // The last node's.
     pub fn last(self) -> &'a [f64]
-        ensures { result.now ≡ last_of self.entry.m self.entry.numbers.now }
+        ensures { result.now ≡ last_of self.entry.tables.now.m self.entry.numbers.now }
     {
-        &self.numbers[self.m..self.m + self.m]
+        let m = self.tables.m;
+        &self.numbers[m..m + m]
     }
 }

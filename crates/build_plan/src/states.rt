@@ -27,6 +27,7 @@ fn divided(times: usize, x: f64, by: f64) -> f64
 
 impl<'a> EndState<'a> {
     // R19, R20, B12: column r of an axis: zero where the state is none, and in segment units where it is marked per unit of s.
+    // (That it is one of the axes stays a clause, as below.)
     #[tactic(auto, using(rules::proofs::Cells::read), unfolding(rules::specs::Build::boundary_number))]
     fn number(self, axes: usize, inv_ds: f64, axis: usize, r: usize) -> f64
         requires { (axis < axes) × HasNumbers axes (r + 1) self }
@@ -46,6 +47,7 @@ impl<'a> EndState<'a> {
     }
 
     // The m numbers of an axis, as many as `out` has room for.
+    // (That it is one of the axes stays a clause: a struct of both numbers would be made for this call alone.)
     pub fn axis_numbers(self, axes: usize, inv_ds: f64, axis: usize, out: &mut [f64])
         requires { (axis < axes) × HasNumbers axes (length out.old) self }
         ensures { out.new

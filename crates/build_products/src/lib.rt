@@ -2,7 +2,7 @@
 // the definitions of crates/rules/specs/Solve.antt, for every m.
 //
 // A matrix to be factored is a list, row by row, as in the definitions. One that is only multiplied
-// with, or solved with column by column, is kept by columns: `transposed`. Its m stays beside it, as in the definitions.
+// with, or solved with column by column, is kept by columns: `transposed`.
 #![tactic(auto)]
 
 ghost use Rattle.std.specs.Prelude.{◌≡◌, ◌+◌, ◌*◌, ◌≤◌, ◌<◌, length};
@@ -11,6 +11,7 @@ ghost use Rattle.rules.specs.Solve.{times, minus};
 ghost use Rattle.build_products.specs.Columns.{transposed};
 
 // R3: the sum of the products: the numbers of a from `at` on, each `step` behind the one before, times those of v.
+// (`at` stays a number: it is no length, but the place of the first, and a slice `&a[at..]` would only say the place at each call.)
 pub fn dot(a: &[f64], at: usize, step: usize, v: &[f64]) -> f64
     requires { (1 ≤ length v.now) × (at + (length v.now * step) < length a.now + step) }
     ensures { result ≡ sum_of (length v.now) (λ j. a.now ! (at + j * step) ⊗ v.now ! j) }
@@ -25,6 +26,8 @@ pub fn dot(a: &[f64], at: usize, step: usize, v: &[f64]) -> f64
 }
 
 // v − a·u, where a is kept by columns.
+// (m stays a parameter, and the lengths and `1 ≤ m` stay clauses: the lists are parts of longer ones, so a struct for each would be made
+// anew at each call, with the same to show; and with `u.len()` for m the promise would say `length u.now`, where the definitions say m.)
 pub fn subtract_product(m: usize, a: &[f64], u: &[f64], v: &mut [f64])
     requires { (1 ≤ m) × (length a.now ≡ m * m) × (length u.now ≡ m) × (length v.old ≡ m) }
     ensures { v.new ≡ minus m v.old (times m (transposed m a.now) u.now) }

@@ -14,6 +14,7 @@ pub struct AxisWaypoints<'a> {
     pub axes: usize,
     pub axis: usize,
     pub waypoints: &'a [f64],
+    pub ghost below: { axis < axes },
 }
 
 impl<'a> AxisWaypoints<'a> {
@@ -27,7 +28,7 @@ impl<'a> AxisWaypoints<'a> {
 
     // R1: "dy = right minus left waypoint", of segment i.
     pub fn dy(self, i: usize) -> f64
-        requires { (self.axis < self.axes) × (suc i * self.axes + self.axis < length self.waypoints.now) }
+        requires { suc i * self.axes + self.axis < length self.waypoints.now }
         ensures { result
             ≡ of_axis self.entry.axes self.entry.waypoints.now self.entry.axis (suc i)
             ⊖ of_axis self.entry.axes self.entry.waypoints.now self.entry.axis i }
@@ -37,12 +38,12 @@ impl<'a> AxisWaypoints<'a> {
 }
 
 // R5: "R[·,0] × dy before + R[·,1] × dy after".
-pub fn compute_rhs(m: usize, r: &[f64], dy_prev: f64, dy_next: f64, out: &mut [f64])
-    requires { (length r.now ≡ m * 2) × (length out.old ≡ m) }
+pub fn compute_rhs(r: &[f64], dy_prev: f64, dy_next: f64, out: &mut [f64])
+    requires { length r.now ≡ length out.old * 2 }
     ensures { out.new
-        ≡ listed m (λ k. entry 2 r.now k 0 ⊗ dy_prev ⊕ entry 2 r.now k 1 ⊗ dy_next) }
+        ≡ listed (length out.old) (λ k. entry 2 r.now k 0 ⊗ dy_prev ⊕ entry 2 r.now k 1 ⊗ dy_next) }
 {
-    for k in 0..m {
-        out[k] = r[k * 2] * dy_prev + r[k * 2 + 1] * dy_next;
+    for (k, x) in out.iter_mut().enumerate() {
+        *x = r[k * 2] * dy_prev + r[k * 2 + 1] * dy_next;
     }
 }

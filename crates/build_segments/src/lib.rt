@@ -14,8 +14,8 @@ use build_tables::BlockMatrices;
 // F5: the m numbers of node i: a part of the boundary numbers, which are the first node's and then the last's, or of
 // the solved list, without copying.
 pub fn node_numbers<'a>(ends: BoundaryNumbers<'a>, solved: &'a [f64], i: usize) -> &'a [f64]
-    requires { (ends.n * ends.m ≤ length solved.now) × (i ≤ ends.n + 1) }
-    ensures { result.now ≡ node_part ends.entry.m ends.entry.n ends.entry.numbers.now solved.now i }
+    requires { (ends.n * ends.tables.now.m ≤ length solved.now) × (i ≤ ends.n + 1) }
+    ensures { result.now ≡ node_part ends.entry.tables.now.m ends.entry.n ends.entry.numbers.now solved.now i }
 {
     if i == 0 {
         return ends.first();
@@ -23,14 +23,15 @@ pub fn node_numbers<'a>(ends: BoundaryNumbers<'a>, solved: &'a [f64], i: usize) 
     if ends.n < i {
         return ends.last();
     }
-    let at = (i - 1) * ends.m;
-    &solved[at..at + ends.m]
+    let m = ends.tables.m;
+    let at = (i - 1) * m;
+    &solved[at..at + m]
 }
 
 // R2: "Upper coefficient i = (H[i,0] × dy + P) + Q": the m + 1 of a segment.
+// (Tables and what is filled stay two parameters, as crates/build_nodes says.)
 pub fn upper_coeffs(tables: &BlockMatrices, dy: f64, u0: &[f64], u1: &[f64], out: &mut [f64])
-    requires { (1 ≤ tables.now.m)
-        × (length u0.now ≡ tables.now.m)
+    requires { (length u0.now ≡ tables.now.m)
         × (length u1.now ≡ tables.now.m)
         × (length out.old ≡ tables.now.m + 1) }
     ensures { out.new ≡ listed (tables.now.m + 1) (upper_coefficient tables.now.m dy u0.now u1.now) }
@@ -58,6 +59,8 @@ fn copy_few(from: &[f64], to: &mut [f64])
 }
 
 // R4: "Segment: left waypoint, left node's m numbers, the m + 1 upper ones."
+// (It stays a function of its own: it prints nothing, and fills numbers. Tables and what is filled stay two parameters, as
+// crates/build_nodes says.)
 pub fn write_segment_coeffs(
     tables: &BlockMatrices,
     y: f64,
@@ -66,8 +69,7 @@ pub fn write_segment_coeffs(
     u1: &[f64],
     out: &mut [f64],
 )
-    requires { (1 ≤ tables.now.m)
-        × (length u0.now ≡ tables.now.m)
+    requires { (length u0.now ≡ tables.now.m)
         × (length u1.now ≡ tables.now.m)
         × (length out.old ≡ 2 * tables.now.m + 2) }
     ensures { out.new ≡ segment_coefficients tables.now.m y dy u0.now u1.now }

@@ -32,25 +32,25 @@ module _ (t : BlockMatrices) where
   less a u v = minus t.m v (times t.m (transposed t.m a) u)
 
   -- at_first and at_last are the code's tests
-  pub bounded_is : {m : ℕ} → t.m ≡ m → (n : ℕ) (w start end : List Float) (i : ℕ) (before after : Float) (at_first at_last : Bool)
+  pub bounded_is : (n : ℕ) (w start end : List Float) (i : ℕ) (before after : Float) (at_first at_last : Bool)
       → eqb i 0 ≡ at_first → eqb (i + 1) n ≡ at_last → dy w i ≡ before → dy w (suc i) ≡ after
       → (let first = cond at_first (less t.a.now start (right before after)) (right before after) in
-      cond at_last (less t.c.now end first) first ≡ bounded_side m n w start end i)
+      cond at_last (less t.c.now end first) first ≡ bounded_side t.m n w start end i)
   unfolding bounded_side right_side
-  bounded_is of_m n w start end i before after at_first at_last x y p q =
-      rw (← of_m, ← x, ← y, columns_are t.holds_a, columns_are t.holds_c, add-one, ← p, ← q, t.holds_r.is)
+  bounded_is n w start end i before after at_first at_last x y p q =
+      rw (← x, ← y, columns_are t.holds_a, columns_are t.holds_c, add-one, ← p, ← q, t.holds_r.is)
 
   -- what is subtracted past the first node
-  pub past_first_is : {m : ℕ} → t.m ≡ m → (n : ℕ) (w start end previous : List Float) (i : ℕ) → 0 < i → previous ≡ solved_side m n w start end (i - 1)
-      → less t.a.now previous (bounded_side m n w start end i) ≡ full_side m n w start end i
-  past_first_is of_m n w start end previous i h e = rw (columns_are t.holds_a, of_m, lt-ltb 0 i h, e)
+  pub past_first_is : (n : ℕ) (w start end previous : List Float) (i : ℕ) → 0 < i → previous ≡ solved_side t.m n w start end (i - 1)
+      → less t.a.now previous (bounded_side t.m n w start end i) ≡ full_side t.m n w start end i
+  past_first_is n w start end previous i h e = rw (columns_are t.holds_a, lt-ltb 0 i h, e)
 
 -- how long the boundary numbers are
-pub first_long : (ends : BoundaryNumbers) → length (first_of ends.m ends.numbers.now) ≡ ends.m
-first_long ends = part_length 0 ends.m ends.numbers.now (omega arith)
+pub first_long : (ends : BoundaryNumbers) → length (first_of ends.tables.now.m ends.numbers.now) ≡ ends.tables.now.m
+first_long ends = part_length 0 ends.tables.now.m ends.numbers.now (omega arith)
 
-pub last_long : (ends : BoundaryNumbers) → length (last_of ends.m ends.numbers.now) ≡ ends.m
-last_long ends = part_length ends.m ends.m ends.numbers.now (omega arith)
+pub last_long : (ends : BoundaryNumbers) → length (last_of ends.tables.now.m ends.numbers.now) ≡ ends.tables.now.m
+last_long ends = part_length ends.tables.now.m ends.tables.now.m ends.numbers.now (omega arith)
 
 -- a node's solved right side is solved from all of its right side
 pub solved_is : (m n : ℕ) (w start end : List Float) (i : ℕ) → solved_side m n w start end i ≡ solve m (node_factors m i) (full_side m n w start end i)

@@ -1,16 +1,8 @@
--- What the functions of one inner node are lent, and what they leave. Assumes nothing.
-use Rattle.std.specs.Prelude.{◌≡◌, ℕ, ◌-◌, ◌*◌, ◌<◌, ◌≤◌, cond, List, length, take, drop, ltb, Float}
+-- What the functions of one inner node leave. Assumes nothing.
+use Rattle.std.specs.Prelude.{ℕ, ◌-◌, ◌*◌, cond, List, take, drop, ltb, Float}
 use Rattle.rules.specs.Tables.{A}
 use Rattle.rules.specs.Solve.{times, minus}
 use Rattle.rules.specs.Build.{bounded_side, solved_side}
-use Rattle.build_tables.specs.declared.BlockMatrices.{BlockMatrices}
-
--- the tables are those of m, i is one of n inner nodes, and there is room for its right side
-pub record SideLent (t : BlockMatrices) (m n i : ℕ) (side : List Float) : Type 0 where
-  pub some : 1 ≤ m
-  pub of_m : t.m ≡ m
-  pub inner : i < n
-  pub room : length side ≡ m
 
 -- the i-th m numbers of a list
 abbrev pub part : ℕ → List Float → ℕ → List Float

@@ -1,16 +1,15 @@
 // The right side at an inner node, of module 5 of document 01. What its functions are held to stands in
-// crates/rules/specs/Build.antt; what they are lent, in specs/.
+// crates/rules/specs/Build.antt.
 #![tactic(auto)]
 
 ghost use Rattle.std.specs.Prelude.{◌≡◌, List, suc, ◌-◌, ◌*◌, ◌≤◌, ◌<◌, length, Float};
 ghost use Rattle.rules.specs.Build.{dy, bounded_side, solved_side};
 ghost use Rattle.build_plan.specs.Given.{first_of, last_of};
-ghost use Rattle.build_sides.specs.Node.{SideLent, part, full_side};
+ghost use Rattle.build_sides.specs.Node.{part, full_side};
 
 use build_plan::BoundaryNumbers;
 use build_products::subtract_product;
 use build_rhs::compute_rhs;
-use build_tables::BlockMatrices;
 
 // Inner node i, with the dy before it and the dy after it.
 #[derive(Clone, Copy)]
@@ -21,17 +20,19 @@ pub struct InnerNode {
 }
 
 // R6, R7: the right side at an inner node: "at the first node minus A·start; at the last then minus C·end".
-fn bounded_side(tables: &BlockMatrices, ends: BoundaryNumbers, node: InnerNode, side: &mut [f64])
-    requires { SideLent tables.now ends.m ends.n node.i side.old }
-    ensures { (w : List Float) → dy w node.i ≡ node.dy_prev → dy w (suc node.i) ≡ node.dy_next
+fn bounded_side(ends: BoundaryNumbers, node: InnerNode, side: &mut [f64])
+    requires { (node.i < ends.n) × (length side.old ≡ ends.tables.now.m) }
+    ensures { let m = ends.entry.tables.now.m in
+        (w : List Float) → dy w node.i ≡ node.dy_prev → dy w (suc node.i) ≡ node.dy_next
         → side.new
-        ≡ bounded_side ends.entry.m ends.entry.n w
-        (first_of ends.entry.m ends.entry.numbers.now)
-        (last_of ends.entry.m ends.entry.numbers.now)
+        ≡ bounded_side m ends.entry.n w
+        (first_of m ends.entry.numbers.now)
+        (last_of m ends.entry.numbers.now)
         node.i }
 {
+    let tables = ends.tables;
     let m = tables.m;
-    compute_rhs(m, tables.r, node.dy_prev, node.dy_next, side);
+    compute_rhs(tables.r, node.dy_prev, node.dy_next, side);
     let at_first = node.i == 0;
     if at_first {
         subtract_product(m, tables.a, ends.first(), side);
@@ -43,24 +44,22 @@ fn bounded_side(tables: &BlockMatrices, ends: BoundaryNumbers, node: InnerNode, 
 }
 
 // R8: the right side of an inner node, "past the first then minus A times the previous solved right side".
-pub fn full_side(
-    tables: &BlockMatrices,
-    ends: BoundaryNumbers,
-    node: InnerNode,
-    solved: &[f64],
-    side: &mut [f64],
-)
-    requires { SideLent tables.now ends.m ends.n node.i side.old × (node.i * ends.m ≤ length solved.now) }
-    ensures { let first = first_of ends.entry.m ends.entry.numbers.now in
-        let last = last_of ends.entry.m ends.entry.numbers.now in
+pub fn full_side(ends: BoundaryNumbers, node: InnerNode, solved: &[f64], side: &mut [f64])
+    requires { (node.i < ends.n)
+        × (length side.old ≡ ends.tables.now.m)
+        × (node.i * ends.tables.now.m ≤ length solved.now) }
+    ensures { let m = ends.entry.tables.now.m in
+        let first = first_of m ends.entry.numbers.now in
+        let last = last_of m ends.entry.numbers.now in
         (w : List Float) → dy w node.i ≡ node.dy_prev → dy w (suc node.i) ≡ node.dy_next
         → (0 < node.i
-        → part ends.entry.m solved.now (node.i - 1)
-        ≡ solved_side ends.entry.m ends.entry.n w first last (node.i - 1))
-        → side.new ≡ full_side ends.entry.m ends.entry.n w first last node.i }
+        → part m solved.now (node.i - 1)
+        ≡ solved_side m ends.entry.n w first last (node.i - 1))
+        → side.new ≡ full_side m ends.entry.n w first last node.i }
 {
+    let tables = ends.tables;
     let m = tables.m;
-    bounded_side(tables, ends, node, side);
+    bounded_side(ends, node, side);
     let past_first = 0 < node.i;
     if past_first {
         let previous = (node.i - 1) * m;

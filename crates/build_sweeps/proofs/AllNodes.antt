@@ -17,7 +17,7 @@ use Rattle.law_lists.proofs.Lent.{part_size, part_length}
 use Rattle.build_nodes.specs.NodeLists.{Room, node_entries, node_rows, node_solved}
 use Rattle.law_lists.proofs.PartedList.{Parted, kept, part_at}
 use Rattle.build_nodes.proofs.Nodes.{length_entries, length-node_rows, length_solved}
-use Rattle.build_sweeps.specs.Axis.{NodeFactors, NodeSolved}
+use Rattle.build_sweeps.specs.Nodes.{NodeFactors, NodeSolved}
 
 -- a node among n: k is the place that the code finds for it
 module _ {m n i k : ℕ} (l : i < n) (e : k ≡ settled m i) where

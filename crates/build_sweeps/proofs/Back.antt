@@ -22,7 +22,7 @@ use Rattle.law_lists.proofs.Filling.{lt_or_le, joined_ext, parts_at}
 use Rattle.rules.proofs.Matrices.{length-matrix}
 use Rattle.rules.proofs.Build.{length-solved_side, length-inner}
 use Rattle.build_sides.specs.Node.{part}
-use Rattle.build_sweeps.specs.Axis.{put}
+use Rattle.build_sweeps.specs.Nodes.{put}
 
 -- the i-th of n parts that are k long each is replaced: g is f elsewhere
 pub parts_replace : (n k i : ℕ) (f g : ℕ → List Float) (zs rest : List Float) → ((j : ℕ) → j < n → length (f j) ≡ k)

@@ -1,17 +1,12 @@
 -- A point of an axis is a waypoint. Assumes nothing.
 use mathlib.Core.Path.{◌≡◌, ap₂}
-use mathlib.Core.List.{List}
-use Prim.Native.Nat.{ℕ, suc, ◌+◌, ◌*◌, ◌<◌}
+use Prim.Native.Nat.{ℕ, suc, ◌+◌, ◌<◌}
 use native.Mathlib.Omega.{arith}
-use lib.ListN.{length}
-use lib.Ieee.{Float}
 use Rattle.rules.specs.Floats.{◌⊖◌, ◌!◌, +0}
 use Rattle.rules.specs.Build.{of_axis, dy}
 use Rattle.law_lists.proofs.Filling.{listed_at}
-use Rattle.law_lists.proofs.Places.{cell_inside}
-use Rattle.build_plan.specs.declared.BoundaryNumbers.{BoundaryNumbers}
 use Rattle.build_rhs.specs.declared.AxisWaypoints.{AxisWaypoints}
-use Rattle.build_sweeps.specs.Axis.{AxisLent, points_of}
+use Rattle.build_sweeps.specs.OfAxis.{points_of}
 
 module _ (n : ℕ) (points : AxisWaypoints) where
   pub points_at : (k : ℕ) → k < n + 2 → points_of n points ! k ≡ of_axis points.axes points.waypoints.now points.axis k
@@ -22,7 +17,3 @@ module _ (n : ℕ) (points : AxisWaypoints) where
       ≡ of_axis points.axes points.waypoints.now points.axis (suc i) ⊖ of_axis points.axes points.waypoints.now points.axis i
   unfolding dy
   points_dy i h = ap₂ ◌⊖◌ (points_at (suc i) h) (points_at i (omega arith))
-
-pub point_inside : {m n : ℕ} {points : AxisWaypoints} {ends : BoundaryNumbers} {solved : List Float} → AxisLent m n points ends solved
-    → (k : ℕ) → k < n + 2 → k * points.axes + points.axis < length points.waypoints.now
-point_inside {m} {n} {points} h k l = rw h.waypoints_length (cell_inside points.axes l h.axis_below)

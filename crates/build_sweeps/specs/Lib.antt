@@ -1,1 +1,2 @@
-pub mod Axis
+pub mod Nodes
+pub mod OfAxis

@@ -7,9 +7,8 @@ ghost use Rattle.std.specs.Prelude.{◌≡◌, List, ◌++◌, suc, ◌+◌, ◌
 ghost use Rattle.law_lists.specs.Lists.{joined};
 ghost use Rattle.rules.specs.Solve.{times, minus, solve, node_factors, solved_c_of};
 ghost use Rattle.rules.specs.Build.{solved_side, inner_numbers};
-ghost use Rattle.build_plan.specs.Given.{first_of, last_of};
 ghost use Rattle.build_sides.specs.Node.{part};
-ghost use Rattle.build_sweeps.specs.Axis.{NodeFactors, NodeSolved, AxisLent, points_of, put};
+ghost use Rattle.build_sweeps.specs.Nodes.{NodeFactors, NodeSolved, put};
 
 use build_forward::Factored;
 use build_plan::BoundaryNumbers;
@@ -21,6 +20,8 @@ use build_tables::BlockMatrices;
 
 // What all axes of a build with n inner nodes share: the tables, and of the nodes' matrices that differ, one after the other, the
 // factored matrices, their rows, and solved C by columns.
+// (n stays beside the lists: it is no length of theirs, since they hold the nodes that differ, and may have room for more. The rows stay a
+// list of numbers, as crates/build_pivots says.)
 #[derive(Clone, Copy)]
 pub struct NodeMatrices<'a> {
     pub tables: &'a BlockMatrices,
@@ -28,8 +29,6 @@ pub struct NodeMatrices<'a> {
     pub entries: &'a [f64],
     pub rows: &'a [usize],
     pub solved_c: &'a [f64],
-    pub ghost some: { 1 ≤ tables.now.m },
-    pub ghost few: { tables.now.m ≤ 3 },
     pub ghost few_nodes: { n ≤ 255 },
     pub ghost factors: { NodeFactors tables.now.m n entries.now rows.now },
     pub ghost solved: { NodeSolved tables.now.m n solved_c.now },
@@ -37,6 +36,8 @@ pub struct NodeMatrices<'a> {
 
 impl NodeMatrices<'_> {
     // R10, Z3: a right side solved with the factored matrix of inner node i, into its place.
+    // (The node's place and the list of all nodes stay two parameters: the place is another at each call, so a struct of both would be
+    // made anew for each node.)
     fn solve_node(&self, i: usize, side: &[f64], solved: &mut [f64])
         requires { (i < self.now.n)
             × (length side.now ≡ self.now.tables.now.m)
@@ -57,32 +58,8 @@ impl NodeMatrices<'_> {
         build_solving::solve(&matrix, side, &mut solved[out..out + m]);
     }
 
-    // The solved right sides of all inner nodes. A dy is worked out once: the one after a node is the one before the next.
-    fn forward_sweep(&self, points: AxisWaypoints, ends: BoundaryNumbers, solved: &mut [f64])
-        requires { AxisLent self.now.tables.now.m self.now.n points ends solved.old }
-        ensures { let m = self.now.tables.now.m in
-            let w = points_of self.now.n points.entry in
-            let first = first_of m ends.entry.numbers.now in
-            let last = last_of m ends.entry.numbers.now in
-            solved.new ≡ joined self.now.n (solved_side m self.now.n w first last) ++ drop (self.now.n * m) solved.old }
-    {
-        let mut room = [0.0; 3];
-        let side = &mut room[..self.tables.m];
-        let mut dy_prev = points.dy(0);
-        for i in 0..self.n {
-            let dy_next = points.dy(i + 1);
-            let node = InnerNode {
-                i,
-                dy_prev,
-                dy_next,
-            };
-            full_side(self.tables, ends, node, solved, side);
-            self.solve_node(i, side, solved);
-            dy_prev = dy_next;
-        }
-    }
-
     // R11, Z3: "Back: u = solved right side − solved C · next u", at inner node i.
+    // (The node's place and the list of all nodes stay two parameters, as above.)
     fn back_step(&self, i: usize, solved: &mut [f64])
         requires { (i < self.now.n) × ((i + 2) * self.now.tables.now.m ≤ length solved.old) }
         ensures { let m = self.now.tables.now.m in
@@ -110,18 +87,60 @@ impl NodeMatrices<'_> {
             self.back_step(i - 1, solved);
         }
     }
+}
 
-    // R8, R10, R11: the numbers of all inner nodes of an axis.
-    pub fn inner_numbers(&self, points: AxisWaypoints, ends: BoundaryNumbers, solved: &mut [f64])
-        requires { AxisLent self.now.tables.now.m self.now.n points ends solved.old }
-        ensures { let m = self.now.tables.now.m in
-            let n = self.now.n in
-            let w = points_of n points.entry in
-            let first = first_of m ends.entry.numbers.now in
-            let last = last_of m ends.entry.numbers.now in
-            solved.new ≡ joined n (λ j. inner_numbers m n w first last j (n - suc j)) ++ drop (n * m) solved.old }
+// One axis of a build: the inner nodes' matrices, which all axes share, its waypoints, and the m numbers of its first node and then
+// those of its last.
+#[derive(Clone, Copy)]
+pub struct Axis<'a, 'b> {
+    pub nodes: &'a NodeMatrices<'a>,
+    pub points: AxisWaypoints<'b>,
+    pub numbers: &'a [f64],
+    pub ghost points_length: { length points.waypoints.now ≡ (nodes.now.n + 2) * points.axes },
+    pub ghost both: { nodes.now.tables.now.m + nodes.now.tables.now.m ≤ length numbers.now },
+}
+
+impl Axis<'_, '_> {
+    ghost use Rattle.std.specs.Prelude.{◌≡◌, ◌++◌, ◌≤◌, length, drop};
+    ghost use Rattle.law_lists.specs.Lists.{joined};
+    ghost use Rattle.build_sweeps.specs.OfAxis.{inner_length, solved_sides, numbers_of};
+
+    // The solved right sides of all inner nodes. A dy is worked out once: the one after a node is the one before the next.
+    fn forward_sweep(&self, solved: &mut [f64])
+        requires { inner_length self.now ≤ length solved.old }
+        ensures { solved.new
+            ≡ joined self.now.nodes.now.n (solved_sides self.now) ++ drop (inner_length self.now) solved.old }
     {
-        self.forward_sweep(points, ends, solved);
-        self.back_sweep(solved);
+        let nodes = self.nodes;
+        let points = self.points;
+        let ends = BoundaryNumbers {
+            tables: nodes.tables,
+            n: nodes.n,
+            numbers: self.numbers,
+        };
+        let mut room = [0.0; 3];
+        let side = &mut room[..nodes.tables.m];
+        let mut dy_prev = points.dy(0);
+        for i in 0..nodes.n {
+            let dy_next = points.dy(i + 1);
+            let node = InnerNode {
+                i,
+                dy_prev,
+                dy_next,
+            };
+            full_side(ends, node, solved, side);
+            nodes.solve_node(i, side, solved);
+            dy_prev = dy_next;
+        }
+    }
+
+    // R8, R10, R11: the numbers of all inner nodes.
+    pub fn inner_numbers(&self, solved: &mut [f64])
+        requires { inner_length self.now ≤ length solved.old }
+        ensures { solved.new
+            ≡ joined self.now.nodes.now.n (numbers_of self.now) ++ drop (inner_length self.now) solved.old }
+    {
+        self.forward_sweep(solved);
+        self.nodes.back_sweep(solved);
     }
 }

@@ -3,17 +3,19 @@
 
 ghost use Rattle.std.specs.Prelude.{◌≡◌, ◌+◌, ◌*◌, ◌≤◌, length};
 ghost use Rattle.theorem_pivots.specs.Repeating.{distinct};
-ghost use Rattle.build_filling.specs.AllAxes.{all_axes};
+ghost use Rattle.build_filling.specs.AllAxes.{cells_of, all_axes};
 
 use build_plan::Plan;
 
 // Lists for so many entries of the matrices that differ, so many of their rows, and so many numbers of the inner nodes.
+// (Plan and buffer stay two parameters, and the buffer's length stays a clause: a struct of both would hold the buffer as `&mut`, and each
+// function would promise too that it still lends the same list, by the same plan.)
 #[inline(never)]
 fn fill_with<const ENTRIES: usize, const ROWS: usize, const NUMBERS: usize>(
     plan: &Plan,
     coeffs: &mut [f64],
 )
-    requires { (length coeffs.old ≡ plan.now.axes * ((plan.now.n + 1) * (2 * plan.now.m + 2)))
+    requires { (length coeffs.old ≡ cells_of plan.now)
         × (distinct plan.now.m plan.now.n * (plan.now.m * plan.now.m) ≤ ENTRIES)
         × (distinct plan.now.m plan.now.n * plan.now.m ≤ ROWS)
         × (plan.now.n * plan.now.m ≤ NUMBERS)
@@ -38,8 +40,9 @@ fn fill_with<const ENTRIES: usize, const ROWS: usize, const NUMBERS: usize>(
 
 // F10: "Lists per node: fixed arrays for 255 nodes", whose matrices the first 91 have all. A curve with fewer nodes has
 // shorter ones, since an array is set to zero before it is used; two points have no inner node.
+// (Plan and buffer stay two parameters, as above.)
 pub fn fill(plan: &Plan, coeffs: &mut [f64])
-    requires { length coeffs.old ≡ plan.now.axes * ((plan.now.n + 1) * (2 * plan.now.m + 2)) }
+    requires { length coeffs.old ≡ cells_of plan.now }
     ensures { coeffs.new ≡ all_axes plan.now }
 {
     if plan.n == 0 {

@@ -5,6 +5,7 @@ ghost use Rattle.std.specs.Prelude.{◌≡◌, ◌≤◌};
 ghost use Rattle.build_products.specs.Columns.{HoldsA, HoldsB, HoldsC, HoldsR, HoldsH};
 
 // For an m: A and C by columns, which is how products and solving go through them, B, R and H by rows.
+// (m stays beside the lists: none of their lengths is m.)
 #[derive(Clone, Copy)]
 pub struct BlockMatrices {
     pub m: usize,
@@ -13,6 +14,8 @@ pub struct BlockMatrices {
     pub c: &'static [f64],
     pub r: &'static [f64],
     pub h_coeff: &'static [f64],
+    pub ghost some: { 1 ≤ m },
+    pub ghost few: { m ≤ 3 },
     pub ghost holds_a: { HoldsA m a.now },
     pub ghost holds_b: { HoldsB m b.now },
     pub ghost holds_c: { HoldsC m c.now },
@@ -55,7 +58,8 @@ const M3: BlockMatrices = BlockMatrices {
     ],
 };
 
-// The tables for an m. It is no `From`, since only 1, 2 and 3 have tables.
+// The tables for an m. (It stays a function, and `1 ≤ m` its clause: a `From` would have to give tables for every number, and only 1, 2
+// and 3 have some; a `TryFrom` would hand each caller a case that cannot happen.)
 pub fn for_order(m: usize) -> BlockMatrices
     requires { (1 ≤ m) × (m ≤ 3) }
     ensures { result.m ≡ m }

@@ -1,39 +1,32 @@
 // One axis of a build by the block-Thomas algorithm, module 5 of document 01: the numbers of its inner nodes (crates/build_sweeps),
-// and its segments written from them. What its functions are held to stands in crates/rules/specs/Build.antt; what they are
-// lent, in specs/.
+// and its segments written from them. What its functions are held to stands in crates/rules/specs/Build.antt.
 #![tactic(auto)]
 
-ghost use Rattle.std.specs.Prelude.{◌≡◌, ◌+◌, ◌*◌, length};
+ghost use Rattle.std.specs.Prelude.{◌≡◌, ◌+◌, ◌≤◌, length};
 ghost use Rattle.law_lists.specs.Lists.{joined};
-ghost use Rattle.rules.specs.Build.{axis_coefficients};
-ghost use Rattle.build_plan.specs.Given.{first_of, last_of};
-ghost use Rattle.build_sweeps.specs.Axis.{AxisLent, points_of};
-ghost use Rattle.build_thomas.specs.Row.{SegmentsLent, segment_of};
+ghost use Rattle.build_sweeps.specs.OfAxis.{inner_length, coefficients_of};
+ghost use Rattle.build_thomas.specs.Row.{cells_of, segment_of};
 
 use build_plan::BoundaryNumbers;
-use build_rhs::AxisWaypoints;
 use build_segments::{node_numbers, write_segment_coeffs};
-use build_sweeps::NodeMatrices;
-use build_tables::BlockMatrices;
+use build_sweeps::Axis;
 
-// B14: the n + 1 segments.
-fn write_segments(
-    tables: &BlockMatrices,
-    points: AxisWaypoints,
-    ends: BoundaryNumbers,
-    solved: &[f64],
-    chunk: &mut [f64],
-)
-    requires { SegmentsLent tables.now points ends solved.now chunk.old }
-    ensures { chunk.new
-        ≡ joined (ends.entry.n + 1)
-        (segment_of ends.entry.m ends.entry.n (points_of ends.entry.n points.entry) ends.entry.numbers.now solved.now) }
+// B14: the n + 1 segments, from the numbers of the inner nodes. (It stays a function of its own: it prints nothing, and fills numbers.)
+fn write_segments(axis: &Axis, solved: &[f64], chunk: &mut [f64])
+    requires { (inner_length axis.now ≤ length solved.now) × (length chunk.old ≡ cells_of axis.now) }
+    ensures { chunk.new ≡ joined (axis.now.nodes.now.n + 1) (segment_of axis.now solved.now) }
 {
-    let width = 2 * ends.m + 2;
+    let points = axis.points;
+    let ends = BoundaryNumbers {
+        tables: axis.nodes.tables,
+        n: axis.nodes.n,
+        numbers: axis.numbers,
+    };
+    let width = 2 * ends.tables.m + 2;
     for i in 0..ends.n + 1 {
         let at = i * width;
         write_segment_coeffs(
-            tables,
+            ends.tables,
             points.waypoint(i),
             points.dy(i),
             node_numbers(ends, solved, i),
@@ -43,23 +36,11 @@ fn write_segments(
     }
 }
 
-// An axis's coefficients, from its waypoints, the numbers of its first and last node, and the nodes' factored matrices.
-// `solved` has room for the numbers of the inner nodes.
-pub fn thomas_row(
-    nodes: &NodeMatrices,
-    points: AxisWaypoints,
-    ends: BoundaryNumbers,
-    solved: &mut [f64],
-    chunk: &mut [f64],
-)
-    requires { AxisLent nodes.now.tables.now.m nodes.now.n points ends solved.old
-        × (length chunk.old ≡ (nodes.now.n + 1) * (2 * nodes.now.tables.now.m + 2)) }
-    ensures { let m = nodes.now.tables.now.m in
-        let w = points_of nodes.now.n points.entry in
-        let first = first_of m ends.entry.numbers.now in
-        let last = last_of m ends.entry.numbers.now in
-        chunk.new ≡ axis_coefficients m nodes.now.n w first last }
+// An axis's coefficients. `solved` has room for the numbers of the inner nodes.
+pub fn thomas_row(axis: &Axis, solved: &mut [f64], chunk: &mut [f64])
+    requires { (inner_length axis.now ≤ length solved.old) × (length chunk.old ≡ cells_of axis.now) }
+    ensures { chunk.new ≡ coefficients_of axis.now }
 {
-    nodes.inner_numbers(points, ends, solved);
-    write_segments(nodes.tables, points, ends, solved, chunk);
+    axis.inner_numbers(solved);
+    write_segments(axis, solved, chunk);
 }

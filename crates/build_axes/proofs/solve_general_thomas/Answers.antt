@@ -17,8 +17,6 @@ invariant_of-nodes c =
     let room : Room t.m c.distinct.result a.entries.now a.rows.now a.solved_c.now = room_for is (rw of_m c.requires.1) in
     let (entries, rows, columns) = c.factor_nodes.ensures in
     record {
-      some = some;
-      few = few;
       few_nodes = p.few_nodes;
       factors = node_factors_lem some few is room t.holds_b.sized entries rows;
       solved = node_solved_lem some few is room t.holds_b.sized columns;

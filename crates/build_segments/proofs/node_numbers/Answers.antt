@@ -10,10 +10,10 @@ unfolding node_part
 returns-then-i-eq0 c = rw c.if-i-eq0.true c.first.ensures
 
 pub returns-then-ends-i : goal.returns-then-ends-i
-returns-then-ends-i c = let a = c.args in c.last.ensures ∙ sym (last_part a.ends.m a.ends.n a.ends.numbers.now a.solved.now a.i c.if-ends-i.true)
+returns-then-ends-i c = let a = c.args in c.last.ensures ∙ sym (last_part a.ends.tables.now.m a.ends.n a.ends.numbers.now a.solved.now a.i c.if-ends-i.true)
 
 pub returns : goal.returns
 returns c =
     let a = c.args in
-    part_size ((a.i - 1) * a.ends.m) a.ends.m a.solved.now
-    ∙ sym (inner_part a.ends.m a.ends.n a.ends.numbers.now a.solved.now a.i (omega arith) (omega arith))
+    part_size ((a.i - 1) * a.ends.tables.now.m) a.ends.tables.now.m a.solved.now
+    ∙ sym (inner_part a.ends.tables.now.m a.ends.n a.ends.numbers.now a.solved.now a.i (omega arith) (omega arith))

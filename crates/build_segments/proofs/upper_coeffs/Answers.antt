@@ -17,6 +17,6 @@ loop-i-preserved c =
     let width = 1 + 2 * t.m in
     let row : i * width + width ≤ length t.h_coeff.now = rw (rows_long t.holds_h) (part_inside width (omega arith)) in
     step c.loop-i.invariant
-    (rw (read t.h_coeff.now (i * width) (omega arith), c.dot-dot_u0.ensures, c.dot-dot_u1.ensures, c.requires.1, c.requires.2)
+    (rw (read t.h_coeff.now (i * width) (omega arith), c.dot-dot_u0.ensures, c.dot-dot_u1.ensures, c.requires.0, c.requires.1)
     (upper_is t.m a.dy t.h_coeff.now a.u0.now a.u1.now i t.holds_h.is))
     (omega arith)

@@ -8,10 +8,9 @@ use Rattle.build_sides.proofs.full_side.Goals as goal
 
 pub subtract_product-requires : goal.subtract_product-requires
 subtract_product-requires c =
-    let t = c.args.tables.now in
+    let t = c.args.ends.tables.now in
     let i = c.args.node.i in
     let solved = c.args.solved.now in
-    let long : i * t.m ≤ length solved = rw c.requires.0.of_m c.requires.1 in
     let inside : (i - 1) * t.m + t.m ≤ length solved = omega (arith, part_inside t.m {i = i - 1} {n = i} (omega arith)) in
     (omega arith, columns_long t.holds_a, rw part_size (part_length ((i - 1) * t.m) t.m solved inside), omega arith)
 
@@ -20,4 +19,4 @@ returns-then-past_first c =
     let a = c.args in
     λ w p q s.
     rw (c.subtract_product.ensures, part_size, c.bounded_side.ensures w p q)
-    (past_first_is a.tables.now c.requires.0.of_m a.ends.n w _ _ _ a.node.i c.if-past_first.true (rw c.requires.0.of_m (s c.if-past_first.true)))
+    (past_first_is a.ends.tables.now a.ends.n w _ _ _ a.node.i c.if-past_first.true (s c.if-past_first.true))

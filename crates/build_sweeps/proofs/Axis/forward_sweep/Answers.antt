@@ -7,39 +7,37 @@ use Rattle.rules.specs.Solve.{solve, node_factors}
 use Rattle.rules.specs.Build.{dy}
 use Rattle.rules.proofs.Build.{length-solved_side}
 use Rattle.build_sides.proofs.Sides.{solved_is}
-use Rattle.build_sweeps.specs.Axis.{points_of}
+use Rattle.build_sweeps.specs.OfAxis.{points_of}
 use Rattle.build_sweeps.proofs.Points.{points_dy}
-use Rattle.build_sweeps.proofs.NodeMatrices.forward_sweep.Goals as goal
+use Rattle.build_sweeps.proofs.Axis.forward_sweep.Goals as goal
 
 pub loop-i-init : goal.loop-i-init
 loop-i-init c =
     let self = c.args.self.now in
-    let m = self.tables.now.m in
+    let tables = self.nodes.now.tables.now in
     record {
-      done = none m _ c.args.solved.now (length-solved_side m self.n _ _ _);
-      before = points_dy self.n c.args.points 0 (omega arith) ∙ sym c.dy-dy_prev.ensures;
-      room = length-take-le m _ self.few;
+      done = none tables.m _ c.args.solved.now (length-solved_side tables.m self.nodes.now.n _ _ _);
+      before = points_dy self.nodes.now.n self.points 0 (omega arith) ∙ sym c.dy-dy_prev.ensures;
+      room = length-take-le tables.m _ tables.few;
     }
 
 pub loop-i-preserved : goal.loop-i-preserved
 loop-i-preserved c =
     let self = c.args.self.now in
-    let m = self.tables.now.m in
-    let n = self.n in
+    let m = self.nodes.now.tables.now.m in
+    let n = self.nodes.now.n in
     let i = c.loop-i.i in
     let inv = c.loop-i.invariant in
-    let w : List Float = points_of n c.args.points in
-    let next : dy w (suc i) ≡ c.dy-dy_next.result = rw add-one at (points_dy n c.args.points (i + 1) (omega arith) ∙ sym c.dy-dy_next.ensures) in
-    let of_m : c.args.ends.m ≡ m = c.requires.ends_of_m in
-    let of_n : c.args.ends.n ≡ n = c.requires.ends_of_n in
-    let side = rw (of_m, of_n) at (c.full_side.ensures w inv.before next (λ q. rw (of_m, of_n) (part_at inv.done (i - 1) (omega arith)))) in
+    let w : List Float = points_of n self.points in
+    let next : dy w (suc i) ≡ c.dy-dy_next.result = rw add-one at (points_dy n self.points (i + 1) (omega arith) ∙ sym c.dy-dy_next.ensures) in
+    let side = c.full_side.ensures w inv.before next (λ q. part_at inv.done (i - 1) (omega arith)) in
     record {
       done =
           rw c.solve_node.ensures
           (step inv.done
           (ap (solve m (node_factors m i)) side
           ∙ sym (solved_is m n w _ _ i))
-          (rw next_part (le_trans (part_inside m c.loop-i-test.true) c.requires.solved_room)));
+          (rw next_part (le_trans (part_inside m c.loop-i-test.true) c.requires)));
       before = rw add-one next;
       room = omega arith;
     }
