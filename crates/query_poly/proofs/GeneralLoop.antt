@@ -8,6 +8,7 @@ use native.Mathlib.Omega.{arith}
 use lib.ListN.{length, get_or, take}
 use lib.Seq.{take-suc, take_all}
 use lib.Ieee.{Float, nan}
+use Rattle.std.proofs.lemmas.List.{nil_from_length}
 use Rattle.rules.specs.Floats.{+0}
 use Rattle.rules.specs.Query.{general_loop, loop_derivative}
 use Rattle.query_loop.specs.declared.Derivatives.{Derivatives}
@@ -26,13 +27,14 @@ pub record Looped (level : ℕ) (a : List Float) (t : Float) (b : Derivatives) (
 
 module _ (level : ℕ) (a : List Float) (t : Float) where
   -- of the last coefficient alone the derivatives are +0, asked for or not
-  pub start : (n : ℕ) → length a ≡ suc n → Looped level a t (record { q = get_or a n nan; dq = +0; ddq = +0; dddq = +0 }) (take n a)
+  pub start : {b : Derivatives} {left : List Float} (n : ℕ) → length a ≡ suc n → b ≡ record { q = get_or a n nan; dq = +0; ddq = +0; dddq = +0 }
+      → left ≡ take n a → Looped level a t b left
   unfolding general_loop loop_derivative
-  start n e = record {
+  start n e is left = record {
     first = get_or a n nan;
     rest = [];
-    all = sym (take_all (suc n) a (omega arith)) ∙ take-suc a n nan (omega arith);
-    is = simp same;
+    all = rw left (sym (take_all (suc n) a (omega arith)) ∙ take-suc a n nan (omega arith));
+    is = is ∙ simp same;
   }
     where
       same : (asked : Bool) → cond asked +0 +0 ≡ +0
@@ -40,16 +42,18 @@ module _ (level : ℕ) (a : List Float) (t : Float) where
       same false = refl
 
   -- one coefficient more, by what `step` promises
-  pub step : {b r : Derivatives} {left : List Float} (x : Float) → Looped level a t b (left ++ (x ∷ []))
+  pub step : {b r : Derivatives} {left : List Float} (was : List Float) (x : Float) → Looped level a t b was → was ≡ left ++ (x ∷ [])
       → ((y : Float) (rest : List Float) → b ≡ looped level t (y ∷ rest) → r ≡ looped level t (x ∷ (y ∷ rest)))
       → Looped level a t r left
-  step {left = left} x h promise = record {
+  step {left = left} was x h e promise = record {
     first = x;
     rest = h.first ∷ h.rest;
-    all = h.all ∙ append_assoc left (x ∷ []) (h.first ∷ h.rest);
+    all = h.all ∙ rw e (append_assoc left (x ∷ []) (h.first ∷ h.rest));
     is = promise h.first h.rest h.is;
   }
 
   -- where none is left
-  pub end : {b : Derivatives} → Looped level a t b [] → b ≡ looped level t a
-  end h = rw h.all h.is
+  pub end : {b : Derivatives} (left : List Float) → Looped level a t b left → length left ≡ 0 → b ≡ looped level t a
+  end left h none = let e : left ≡ [] = nil_from_length left none in rw (h.all, e) h.is
+
+pub ruleset by_coefficients = (start, step, end)

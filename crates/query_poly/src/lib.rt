@@ -14,6 +14,7 @@ use query_loop::Derivatives;
 use query_steps::{cubic, quintic};
 
 // R27: order 7, by the general loop.
+#[tactic(auto, using(crate::proofs::GeneralLoop::by_coefficients))]
 fn general(level: Level, a: &[f64], t: f64) -> Derivatives
     requires { length a.now ≡ 8 }
     ensures { result ≡ asked (level_number level) (loop_derivative (general_loop t a.now)) }

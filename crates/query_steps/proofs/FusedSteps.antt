@@ -1,12 +1,12 @@
 -- A derivative by fused steps, as code finds it: step by step, of coefficients that it reads. Assumes nothing.
 use mathlib.Core.Path.{◌≡◌, refl, sym, ap, ◌∙◌}
 use mathlib.Core.Bool.{Bool, true, false, cond}
-use mathlib.Core.List.{List, [], ◌∷◌, ◌++◌}
+use mathlib.Core.List.{List, [], ◌∷◌, ◌++◌, append_assoc}
+use Rattle.std.proofs.lemmas.List.{nil_from_length}
 use Prim.Native.Nat.{ℕ, suc, ◌+◌, ◌-◌}
 use native.Mathlib.Omega.{arith}
 use lib.Dec.{eqb}
-use lib.ListN.{length, get_or, take}
-use lib.Seq.{take-suc, take_all}
+use lib.ListN.{length, get_or}
 use lib.Ieee.{Float, nan, binary64}
 use Rattle.rules.specs.Floats.{◌⊗◌, +0, of_count}
 use Rattle.law_lists.specs.Lists.{listed}
@@ -27,19 +27,25 @@ unfolding fused_steps
 is_found last = refl
 is_found {t} (step {x = x} e h) = e ∙ ap (λ (s : Float). fused binary64 s t x) (is_found h)
 
--- of terms that are there the last one is found, after the others
-pub last_found : (t : Float) (xs : List Float) (n : ℕ) → suc n ≡ length xs → fused_steps t xs ≡ fused_steps t (take n xs ++ (get_or xs n nan ∷ []))
-last_found t xs n e =
-    let all : take (suc n) xs ≡ xs = take_all (suc n) xs (omega arith) in
-    ap (fused_steps t) (sym all ∙ take-suc xs n nan (omega arith))
-
 -- of what is found of the last terms and of the term before them a step is found
-pub one_more : (t : Float) (rest : List Float) (x found : Float)
+one_more : (t : Float) (rest : List Float) (x found : Float)
     → fused_steps t (rest ++ (x ∷ (found ∷ []))) ≡ fused_steps t (rest ++ (fused binary64 found t x ∷ []))
 unfolding fused_steps
 one_more t [] x found = refl
 one_more t (a ∷ []) x found = refl
 one_more t (a ∷ (b ∷ rest)) x found = ap (λ (s : Float). fused binary64 s t a) (one_more t (b ∷ rest) x found)
+
+-- The loop over the terms, from the last one down: a term more, and none that is left.
+pub goes_on : (t found x : Float) {r : Float} (terms left rest : List Float) → fused_steps t terms ≡ fused_steps t (left ++ (found ∷ []))
+    → left ≡ rest ++ (x ∷ []) → r ≡ fused binary64 found t x → fused_steps t terms ≡ fused_steps t (rest ++ (r ∷ []))
+goes_on t found x _ _ rest h e is = h ∙ rw (e, is, append_assoc) (one_more t rest x found)
+
+pub ends : (t found : Float) (terms left : List Float) → fused_steps t terms ≡ fused_steps t (left ++ (found ∷ []))
+    → length left ≡ 0 → found ≡ fused_steps t terms
+unfolding fused_steps
+ends t found _ left h none = let e : left ≡ [] = nil_from_length left none in sym (rw e at h)
+
+pub ruleset by_terms = (goes_on, ends)
 
 -- a term, as code reads its coefficient
 abbrev term_read : List Float → ℕ → ℕ → Float

@@ -12,6 +12,7 @@ use query_levels::Level;
 use query_loop::Derivatives;
 
 // F2, R26: fused steps, from the last term down.
+#[tactic(auto, using(crate::proofs::FusedSteps::by_terms))]
 fn fused_steps<const N: usize>(t: f64, terms: [f64; N]) -> f64
     requires { 1 ≤ N }
     ensures { result ≡ fused_steps t terms.entry }
