@@ -218,11 +218,15 @@ pass_goes_on m w start end table i {good} p h =
     one_more m w start end table i p (was_within good m w end table i h refl) (was_good good m w end table i h refl)
 
 -- behind the loop every number is in range, and `good` is the answer
-pub all_passed : {m : ℕ} {w start end table : List ℤ} {good : Bool} → Shaped m w end table → Passed m w start end table good (length w - 1)
+pub all_passed : (m : ℕ) (w start end table : List ℤ) (i : ℕ) {good : Bool} → Shaped m w end table → Passed m w start end table good i → i ≡ length w - 1
     → master_says (Ok good) ≡ pass_says m w start end table
 unfolding pass_says master_says
-all_passed {m} {w} {start} {end} {table} {good} s p =
-    rw (p.left ∙ none_left s (omega arith) (omega arith), ← p.met) refl
+all_passed m w start end table i {good} s p e =
+    let all : Passed m w start end table good (length w - 1) = rw e at p in
+    rw (all.left ∙ none_left s (omega arith) (omega arith), ← all.met) refl
+
+-- what the pass starts and ends by
+pub ruleset by_segments = (no_segment, all_passed)
 
 -- ---- the answer
 

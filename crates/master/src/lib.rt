@@ -16,6 +16,7 @@ use rules::PathError;
 
 // The pass over the table. A number out of range is a refusal wherever it stands, so a segment that does not
 // meet its equations does not end the pass.
+#[tactic(auto, using(crate::proofs::Pass::by_segments))]
 fn check_segments<const M: usize>(lists: MasterLists) -> Result<bool, PathError>
     requires { Shaped M lists.waypoints.now lists.end.now lists.table.now × (length lists.start.now ≡ M) }
     ensures { let l = lists.entry in master_says result ≡ pass_says M l.waypoints.now l.start.now l.end.now l.table.now }
