@@ -20,7 +20,7 @@ use Rattle.rules.specs.declared.PathError.TheVariants.{InvalidArgument}
 use Rattle.law_lists.specs.Lists.{all, every}
 use Rattle.rules.specs.Questions.{Question, ask, first_no, number_of}
 use Rattle.rules.specs.Tables.{m_of}
-use Rattle.rules.specs.Master.{MasterSet, Equations, within, same, at, coefficient, at_end, segments, meets_start}
+use Rattle.rules.specs.Master.{MasterSet, set_of, Equations, within, same, at, coefficient, at_end, segments, meets_start}
 use Rattle.rules.specs.Master.{MasterSays, master_questions, size_questions, length_questions, number_questions, master_number, master_says}
 use Rattle.rules.specs.Master.{endpoint_equations, joint_equations, check_master}
 use Rattle.law_rounding.proofs.Sums.{same_test, and_true}
@@ -249,17 +249,21 @@ passed s e = rw (number_is s, e, met_is s (shaped s e).0.least) (answer (all wit
 -- ---- an order's m
 
 -- what the pass of an order is lent, and its answer
-pub shaped_as : (s : MasterSet) {m : ℕ} → first_no (questions_before s) ≡ 0 → m_of s.order ≡ m
-    → Shaped m s.waypoints s.end s.table × (length s.start ≡ m)
-shaped_as s e h = subst (λ (m : ℕ). Shaped m s.waypoints s.end s.table × (length s.start ≡ m)) h (shaped s e)
+module _ (order m : ℕ) (w start end table : List ℤ) (asked : 0 ≡ first_no (questions_before (set_of order w start end table))) where
+  pub lent : m_of order ≡ m → Shaped m w end table × (length start ≡ m)
+  lent h = subst (λ (m : ℕ). Shaped m w end table × (length start ≡ m)) h (shaped (set_of order w start end table) (sym asked))
 
-pub passed_as : (s : MasterSet) {m : ℕ} → first_no (questions_before s) ≡ 0 → m_of s.order ≡ m
-    → pass_says m s.waypoints s.start s.end s.table ≡ check_master s
-passed_as s e h = subst (λ (m : ℕ). pass_says m s.waypoints s.start s.end s.table ≡ check_master s) h (passed s e)
+  pub answered : {r : MasterSays} → r ≡ pass_says m w start end table → m_of order ≡ m → r ≡ check_master (set_of order w start end table)
+  answered is h =
+      is ∙ subst (λ (m : ℕ). pass_says m w start end table ≡ check_master (set_of order w start end table)) h (passed (set_of order w start end table) (sym asked))
 
 -- neither 3 nor 5
-pub seven : (s : MasterSet) → first_no (questions_before s) ≡ 0 → (s.order ≡ 3 → ⊥) → (s.order ≡ 5 → ⊥) → m_of s.order ≡ 3
+pub seven : (order : ℕ) (w start end table : List ℤ) → 0 ≡ first_no (questions_before (set_of order w start end table)) → (order ≡ 3 → ⊥) → (order ≡ 5 → ⊥)
+    → m_of order ≡ 3
 unfolding questions_before size_questions length_questions
-seven s e n k =
-    by_order (λ (order : ℕ). (order ≡ 3 → ⊥) → (order ≡ 5 → ⊥) → m_of order ≡ 3) (λ n k. absurd (n refl)) (λ n k. absurd (k refl)) (λ n k. refl) s.order
-    (said_yes (questions_before s) tt e 0) n k
+seven order w start end table e n k =
+    by_order (λ (order : ℕ). (order ≡ 3 → ⊥) → (order ≡ 5 → ⊥) → m_of order ≡ 3) (λ n k. absurd (n refl)) (λ n k. absurd (k refl)) (λ n k. refl) order
+    (said_yes (questions_before (set_of order w start end table)) tt (sym e) 0) n k
+
+-- what the check's answer goes by
+pub ruleset by_orders = (answered, seven)
