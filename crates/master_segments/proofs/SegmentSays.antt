@@ -5,12 +5,13 @@ use mathlib.Core.List.{List}
 use Prim.Native.Nat.{ℕ}
 use lib.IntN.{ℤ}
 use borrow.Author.Tests.{not-true, not-false}
-use Rattle.std.specs.Prelude.{Err}
+use Rattle.std.specs.Prelude.{Ok, Err, ◌+◌, ◌-◌, ◌*◌, take, drop}
 use Rattle.rules.specs.declared.PathError.TheVariants.{InvalidArgument}
 use Rattle.law_lists.specs.Lists.{all}
 use Rattle.rules.specs.Master.{MasterSays, within, master_says}
 use Rattle.master_equations.specs.Segment.{segment_meets}
 use Rattle.master_segments.specs.Answer.{segment_part, segment_says}
+use Rattle.master_segments.proofs.SegmentPart.{fit}
 
 module _ (before : Bool) (m : ℕ) (w end table : List ℤ) (i : ℕ) where
   -- a number out of range
@@ -38,3 +39,23 @@ module _ (before : Bool) (m : ℕ) (w end table : List ℤ) (i : ℕ) where
 
     pub was_good : says.refused ≡ false → says.good ≡ (before && segment_meets m w end table i)
     was_good r = ap (λ (x : MasterSays). x.good) (e ∙ segment_answers (was_within r) refl)
+
+-- the ways out, by what the code's tests say: of the part of the table that it lends, and of all before
+module _ (before : Bool) (m : ℕ) (w end table : List ℤ) (i : ℕ) where
+  -- the part, as the code lends it
+  abbrev lent : List ℤ
+  lent = take (i * (2 * m + 2) + (2 * m + 2) - i * (2 * m + 2)) (drop (i * (2 * m + 2)) table)
+
+  pub refuses : false ≡ all within lent → master_says (Err InvalidArgument) ≡ segment_says before m w end table i
+  refuses e = sym (segment_out before m w end table i (fit m table i e))
+
+  pub says_no : true ≡ all within lent → before ≡ false → master_says (Ok false) ≡ segment_says before m w end table i
+  unfolding master_says
+  says_no e f = sym (segment_answers before m w end table i (fit m table i e) (rw f refl))
+
+  pub says : {r : Bool} → true ≡ all within lent → before ≡ true → r ≡ segment_meets m w end table i
+      → master_says (Ok r) ≡ segment_says before m w end table i
+  unfolding master_says
+  says e f is = sym (segment_answers before m w end table i (fit m table i e) (rw f is))
+
+pub ruleset by_parts = (refuses, says_no, says)

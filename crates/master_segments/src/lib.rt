@@ -11,6 +11,7 @@ use master_numbers::range::all_within;
 use rules::PathError;
 
 // The range of segment i's numbers, and then its equations. Where all before is not good, they are not worked out.
+#[tactic(auto, using(crate::proofs::SegmentSays::by_parts))]
 pub fn check_segment<const M: usize>(
     before: bool,
     segments: MasterSegments<M>,
