@@ -16,7 +16,8 @@ use build_sweeps::NodeMatrices;
 // Z3: the matrices that differ are factored once, for all axes, into the lists that are lent for them. No pivot is zero
 // (`PivotsAreNeverZero` of crates/theorem_pivots), so nothing is refused here.
 // (The three lists of the nodes stay three: they are lent to factoring as `&mut` and then held by `NodeMatrices` as `&`, and a struct of
-// the three would only be taken apart for both. Plan and buffer stay two, as crates/build_table says.)
+// the three would only be taken apart for both. The rows stay a list of numbers, as crates/build_pivots says. Plan and buffer stay two
+// parameters, and the buffer's length stays a clause, as crates/build_table says.)
 pub fn solve_general_thomas(
     plan: &Plan,
     entries: &mut [f64],

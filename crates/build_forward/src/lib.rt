@@ -27,7 +27,8 @@ impl Factored<'_> {
     ghost use Rattle.rules.specs.Solve.{forward};
     ghost use Rattle.build_forward.specs.Steps.{factors_of, forward_step};
 
-    // The right side with its rows exchanged. (It stays a loop: what is read goes by the rows, and no method of a slice copies so.)
+    // The right side with its rows exchanged. (It stays a loop with an index: `for (x, row) in out.iter_mut().zip(self.rows)` was tried,
+    // and the proof does not close, since of what is lent inside a zip it knows no more than the length afterwards.)
     fn exchange_rows(&self, b: &[f64], out: &mut [f64])
         requires { (length b.now ≡ self.now.m) × (length out.old ≡ self.now.m) }
         ensures { out.new ≡ forward self.now.m (factors_of self.now) b.now 0 }
@@ -38,7 +39,7 @@ impl Factored<'_> {
     }
 
     // R16, R18: the number of row k is found: its products are subtracted from the rows below.
-    // (It stays a loop over i: column k's entries stand m apart, and without i the loop would go over
+    // (It stays a loop with an index: column k's entries stand m apart, so that it would go over
     // `y[k + 1..].iter_mut().zip(self.entries[k..].iter().step_by(self.m).skip(k + 1))`.)
     fn forward_step(&self, k: usize, y: &mut [f64])
         requires { (k < self.now.m) × (length y.old ≡ self.now.m) }

@@ -1,10 +1,9 @@
 // The pivots of a matrix of m rows, and the exchange of its rows: of module 4 of document 01, below factoring. What each function
 // does is said by the definitions of crates/rules/specs/Solve.antt, for every m.
 //
-// The matrix stays a list beside its m, and its length and that a row is below m stay clauses. Tried here: a struct that holds m and the
-// list as `&mut`, with the length as its ghost field. The clause on the length goes, and each method that changes an entry has two in its
-// place, `self.new.m ≡ self.old.m` and `self.new.a.ghost_name ≡ self.old.a.ghost_name`, since its caller knows neither without them;
-// `k < m` is there as before, since it joins the matrix and another value.
+// The matrix stays a list beside its m, and its length and that a row is below m stay clauses: a struct that holds m and the list as
+// `&mut`, its length a ghost field, was tried here, and each method that changes an entry then promises `self.new.m ≡ self.old.m` and
+// `self.new.a.ghost_name ≡ self.old.a.ghost_name` in the place of the one clause on the length, while `k < m` is as before.
 #![tactic(auto)]
 
 ghost use Rattle.std.specs.Prelude.{◌≡◌, suc, ◌+◌, ◌-◌, ◌*◌, ◌≤◌, ◌<◌, length};

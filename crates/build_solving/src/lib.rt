@@ -11,7 +11,7 @@ ghost use Rattle.build_solving.specs.Steps.{backward_step};
 use build_forward::Factored;
 
 // R17, R18: row k is solved by division, and its products are subtracted from the rows above.
-// (It stays a loop over i: column k's entries stand m apart, and without i the loop would go over
+// (It stays a loop with an index: column k's entries stand m apart, so that it would go over
 // `y[..k].iter_mut().zip(matrix.entries[k..].iter().step_by(m))`.)
 fn backward_step(matrix: &Factored, k: usize, y: &mut [f64])
     requires { (k < matrix.now.m) × (length y.old ≡ matrix.now.m) }

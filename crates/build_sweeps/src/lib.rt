@@ -38,6 +38,7 @@ impl NodeMatrices<'_> {
     // R10, Z3: a right side solved with the factored matrix of inner node i, into its place.
     // (The node's place and the list of all nodes stay two parameters: the place is another at each call, so a struct of both would be
     // made anew for each node.)
+    #[tactic(auto, using(crate::proofs::AllNodes::entries_inside, crate::proofs::AllNodes::rows_inside))]
     fn solve_node(&self, i: usize, side: &[f64], solved: &mut [f64])
         requires { (i < self.now.n)
             × (length side.now ≡ self.now.tables.now.m)
@@ -60,6 +61,7 @@ impl NodeMatrices<'_> {
 
     // R11, Z3: "Back: u = solved right side − solved C · next u", at inner node i.
     // (The node's place and the list of all nodes stay two parameters, as above.)
+    #[tactic(auto, using(crate::proofs::AllNodes::solved_inside))]
     fn back_step(&self, i: usize, solved: &mut [f64])
         requires { (i < self.now.n) × ((i + 2) * self.now.tables.now.m ≤ length solved.old) }
         ensures { let m = self.now.tables.now.m in
@@ -90,7 +92,7 @@ impl NodeMatrices<'_> {
 }
 
 // One axis of a build: the inner nodes' matrices, which all axes share, its waypoints, and the m numbers of its first node and then
-// those of its last.
+// those of its last. (The waypoints are the caller's, and the rest is made for the call: so there are two lifetimes.)
 #[derive(Clone, Copy)]
 pub struct Axis<'a, 'b> {
     pub nodes: &'a NodeMatrices<'a>,

@@ -1,22 +1,10 @@
 -- Node i's part comes back with its numbers, and solved C, kept by columns, is the definition's, at the place of the first node that has the same.
-use Rattle.std.proofs.Common.{◌*◌, arith}
+use Rattle.std.proofs.Common.{◌*◌}
 use Rattle.law_lists.proofs.Places.{next_part}
 use Rattle.build_products.proofs.Transposed.{transposed_twice}
-use Rattle.build_sweeps.proofs.AllNodes.{solved_inside, solved_part}
+use Rattle.build_sweeps.proofs.AllNodes.{solved_part}
 use Rattle.build_sweeps.proofs.Back.{own_part, own_back, length-solved_c}
 use Rattle.build_sweeps.proofs.NodeMatrices.back_step.Goals as goal
-
-pub overflow_mul-at-2 : goal.overflow_mul-at-2
-overflow_mul-at-2 c = omega (arith, solved_inside c.requires.0 c.settled.ensures c.args.self.now.solved)
-
-pub overflow_add-solved_c : goal.overflow_add-solved_c
-overflow_add-solved_c c = omega (arith, solved_inside c.requires.0 c.settled.ensures c.args.self.now.solved)
-
-pub offset_bounds-self-at : goal.offset_bounds-self-at
-offset_bounds-self-at c = omega (arith, solved_inside c.requires.0 c.settled.ensures c.args.self.now.solved)
-
-pub slice_bounds-solved_c-end : goal.slice_bounds-solved_c-end
-slice_bounds-solved_c-end c = solved_inside c.requires.0 c.settled.ensures c.args.self.now.solved
 
 pub returns : goal.returns
 returns c =

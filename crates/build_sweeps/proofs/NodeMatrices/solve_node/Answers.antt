@@ -1,26 +1,8 @@
 -- The parts that are lent to solving are the node's, at the place of the first node that has its matrix.
-use Rattle.std.proofs.Common.{◌+◌, ◌-◌, ◌*◌, take, drop, arith}
+use Rattle.std.proofs.Common.{◌+◌, ◌-◌, ◌*◌, take, drop}
 use Rattle.build_products.specs.Columns.{Below}
 use Rattle.build_sweeps.proofs.AllNodes.{entries_inside, rows_inside, rows_part, node_below, lent_length}
 use Rattle.build_sweeps.proofs.NodeMatrices.solve_node.Goals as goal
-
-pub overflow_mul-at-2 : goal.overflow_mul-at-2
-overflow_mul-at-2 c = omega (arith, entries_inside c.requires.0 c.settled-k.ensures c.args.self.now.factors)
-
-pub overflow_mul-row : goal.overflow_mul-row
-overflow_mul-row c = omega (arith, rows_inside c.requires.0 c.settled-k.ensures c.args.self.now.factors)
-
-pub overflow_add-matrix : goal.overflow_add-matrix
-overflow_add-matrix c = omega (arith, entries_inside c.requires.0 c.settled-k.ensures c.args.self.now.factors)
-
-pub offset_bounds-self-at : goal.offset_bounds-self-at
-offset_bounds-self-at c = omega (arith, entries_inside c.requires.0 c.settled-k.ensures c.args.self.now.factors)
-
-pub slice_bounds-matrix-end : goal.slice_bounds-matrix-end
-slice_bounds-matrix-end c = entries_inside c.requires.0 c.settled-k.ensures c.args.self.now.factors
-
-pub slice_bounds-matrix-end-2 : goal.slice_bounds-matrix-end-2
-slice_bounds-matrix-end-2 c = rows_inside c.requires.0 c.settled-k.ensures c.args.self.now.factors
 
 pub invariant_of-matrix : goal.invariant_of-matrix
 invariant_of-matrix c =
