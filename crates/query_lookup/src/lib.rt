@@ -68,6 +68,7 @@ fn located(path: PathRecord, x: SegmentUnits) -> SegmentTau
 }
 
 // Q11, R22: the lookup of s. In a range that its question lets pass, scaled is never NaN.
+#[tactic(auto, using(crate::proofs::Answer::by_lookup))]
 pub fn segment_tau(path: PathRecord, s: PathParam) -> Result<SegmentTau, OutOfRange>
     requires { Findable path }
     ensures { lookup_says result ≡ lookup_says (lookup path s) }
