@@ -43,7 +43,7 @@ pub fn fill_axes(plan: &Plan, nodes: &NodeMatrices, solved: &mut [f64], coeffs: 
             waypoints,
         };
         let own = Axis {
-            nodes: &*nodes,
+            nodes: &*nodes, // lent again, for this axis alone
             points,
             numbers: &numbers,
         };

@@ -1,6 +1,6 @@
 // The inner nodes of one axis, module 5 of document 01: their right sides solved forward, and their numbers found back. The nodes'
-// matrices are factored already, once for all axes. What its functions are held to stands in crates/rules/specs/Build.antt;
-// what they are lent, in specs/.
+// matrices are factored already, once for all axes. What its functions are held to stands in crates/rules/specs/Build.antt, and for
+// an axis and for the matrices in specs/.
 #![tactic(auto)]
 
 ghost use Rattle.std.specs.Prelude.{◌≡◌, List, ◌++◌, suc, ◌+◌, ◌-◌, ◌*◌, ◌≤◌, ◌<◌, length, take, drop, Float};
