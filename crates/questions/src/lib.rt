@@ -40,8 +40,8 @@ pub fn size_questions(order: usize, points: usize) -> Result<(), PathError>
     Ok(())
 }
 
-// B4: "1 to 8 axes?" (The 8 of crates/sheet_axes stays a constant of its own: it is how far the grammar of a job sheet goes, and one for
-// both would make the reader of sheets lean on the questions before a build.)
+// B4: "1 to 8 axes?" (The 8 of crates/sheet_axes stays a constant of its own: it is a rule of the job sheet's grammar, J20, which could
+// change without this one.)
 const MOST_AXES: usize = 8;
 
 // B4, Q4: are there 1 to 8 axes?
