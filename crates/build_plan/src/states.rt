@@ -47,7 +47,8 @@ impl<'a> EndState<'a> {
     }
 
     // The m numbers of an axis, as many as `out` has room for.
-    // (That it is one of the axes stays a clause: a struct of both numbers would be made for this call alone.)
+    // (That it is one of the axes stays a clause: a struct of both numbers, with that as its ghost field, would be made in the one function
+    // that calls this, `both_ends` of crates/build_filling, which would need the same clause to make it.)
     pub fn axis_numbers(self, axes: usize, inv_ds: f64, axis: usize, out: &mut [f64])
         requires { (axis < axes) × HasNumbers axes (length out.old) self }
         ensures { out.new

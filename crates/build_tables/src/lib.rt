@@ -5,7 +5,7 @@ ghost use Rattle.std.specs.Prelude.{◌≡◌, ◌≤◌};
 ghost use Rattle.build_products.specs.Columns.{HoldsA, HoldsB, HoldsC, HoldsR, HoldsH};
 
 // For an m: A and C by columns, which is how products and solving go through them, B, R and H by rows.
-// (m stays beside the lists: none of their lengths is m.)
+// (m stays beside the lists: they have m × m, m × 2 and (m + 1) × (1 + 2m) numbers, and m would have to be found from one of these.)
 #[derive(Clone, Copy)]
 pub struct BlockMatrices {
     pub m: usize,
