@@ -24,17 +24,25 @@ pub fn begin(at: usize) -> NumberReading
 }
 
 // N2, N4, N6: the next bytes, each looked at once, up to the first that is not part of the number. After two of them a number is in its
-// digits or over, so that the loop over the others has one stage to look for.
-#[tactic(auto, using(crate::proofs::Two::after_two, crate::proofs::Two::two_and_others))]
+// digits or over, so that the loop over the others has one stage to look for. (Record and bytes stay two parameters, as C hands them
+// over.)
+#[tactic(auto, using(crate::proofs::Two::after_two, crate::proofs::Two::two_and_others), unfolding(rules::specs::SheetNumbers::go_on))]
 pub fn go_on(reading: NumberReading, bytes: &[u8]) -> NumberReading
     ensures { result ≡ go_on reading bytes.now }
 {
-    let first = next_byte(reading, bytes, 0);
-    let second = next_byte(first, bytes, 1);
-    digits(second, bytes, 2)
+    let [a, rest @ ..] = bytes else {
+        return reading;
+    };
+    let first = next_byte(reading, *a);
+    let [b, others @ ..] = rest else {
+        return first;
+    };
+    let second = next_byte(first, *b);
+    digits(second, others)
 }
 
-// A size with its sign.
+// A size with its sign. (The minus stays a number, as crates/number_byte says, and how large the size is stays a clause: any number may
+// stand in a record that C hands over.)
 fn signed(minus: u8, size: u64) -> i64
     requires { size ≤ 2 ^ 40 }
     ensures { result ≡ signed_by (eqb minus 1) size }

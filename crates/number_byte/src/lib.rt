@@ -1,4 +1,7 @@
 // One byte of a number on a job sheet: what it makes of the record that is kept, by crates/rules/specs/SheetNumbers.antt.
+//
+// Stage and minus stay numbers: the record crosses to C as it is, so any number may stand in them, and a record that no reading makes is
+// kept as it is. An enum would have to be made of the stage and turned back at each byte, with a case for the numbers that are no stage.
 #![tactic(auto)]
 
 ghost use Rattle.std.specs.Prelude.{◌≡◌, ◌^◌, ◌≤◌, true, ◌&&◌, ◌==◌};
@@ -10,6 +13,7 @@ use sheet_decimals::{LIMIT, digit_from};
 // N2: how far a reading is.
 pub const FRESH: u8 = 0;
 
+// (It stays apart from the 1 that stands for the mode Clamp in crates/tezvorup_records: stages and modes are numbered each for itself.)
 pub const MINUS: u8 = 1;
 
 pub const ZERO: u8 = 2;
@@ -59,13 +63,6 @@ fn with_digit(reading: NumberReading, d: u64) -> NumberReading
     }
 }
 
-// Whether a byte is the number's first, and that one.
-fn is_first(stage: u8, b: u8, that: u8) -> bool
-    ensures { result ≡ (stage == fresh && b == that) }
-{
-    stage == FRESH && b == that
-}
-
 // Whether a byte is a digit of the number.
 fn belongs(stage: u8, b: u8) -> bool
     ensures is { result ≡ belongs stage b }
@@ -80,24 +77,20 @@ fn belongs(stage: u8, b: u8) -> bool
     digit_from(b'1', b)
 }
 
-// N1, N2: the next byte. No digit follows a 0, and a minus or a place without a first digit is at fault.
+// N1, N2: the next byte. No digit follows a 0, and a minus or a place without a first digit is at fault. (The two calls of `left` stay in
+// their arms: they end in two stages, and one call behind the match would need a name for the stage in each of its arms.)
 #[tactic(auto, unfolding(rules::specs::SheetNumbers::taken))]
 pub fn taken(reading: NumberReading, b: u8) -> NumberReading
     requires { reading.size ≤ 2 ^ 40 }
     ensures { result ≡ taken reading b }
 {
-    let stage = reading.stage;
-    if belongs(stage, b) {
+    if belongs(reading.stage, b) {
         return with_digit(reading, u64::from(b - b'0'));
     }
-    if is_first(stage, b, b'-') {
-        return passed(reading, MINUS, 1);
+    match (reading.stage, b) {
+        (FRESH, b'-') => passed(reading, MINUS, 1),
+        (FRESH, b'0') => passed(reading, ZERO, reading.minus),
+        (FRESH | MINUS, _) => left(reading, FAULTED),
+        _ => left(reading, ENDED),
     }
-    if is_first(stage, b, b'0') {
-        return passed(reading, ZERO, reading.minus);
-    }
-    if stage <= MINUS {
-        return left(reading, FAULTED);
-    }
-    left(reading, ENDED)
 }

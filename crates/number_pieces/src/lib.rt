@@ -2,7 +2,7 @@
 // crates/rules/specs/SheetNumbers.antt.
 #![tactic(auto)]
 
-ghost use Rattle.std.specs.Prelude.{◌≡◌, true, ◌^◌, ◌≤◌, take, drop};
+ghost use Rattle.std.specs.Prelude.{◌≡◌, true, ◌^◌, ◌≤◌, ◌∷◌, []};
 ghost use Rattle.rules.specs.SheetNumbers.{sound, is_open, go_on};
 ghost use Rattle.theorem_numbers.specs.Pieces.{Settled, is_more};
 
@@ -28,22 +28,19 @@ fn is_open(reading: NumberReading) -> bool
     reading.stage <= DIGITS && is_sound(reading)
 }
 
-// The byte at a place, where there is one and the record takes it.
-#[tactic(auto, using(crate::proofs::Bytes::one_none, crate::proofs::Bytes::one_byte, theorem_numbers::proofs::Going::stays))]
-pub fn next_byte(reading: NumberReading, bytes: &[u8], at: usize) -> NumberReading
-    ensures { result ≡ go_on reading (take 1 (drop at bytes.now)) }
+// A byte, where the record takes it.
+#[tactic(auto, using(crate::proofs::Bytes::one_byte, theorem_numbers::proofs::Going::stays))]
+pub fn next_byte(reading: NumberReading, b: u8) -> NumberReading
+    ensures { result ≡ go_on reading (b ∷ []) }
 {
-    if bytes.len() <= at {
-        return reading;
-    }
     if !is_open(reading) {
         return reading;
     }
-    taken(reading, bytes[at])
+    taken(reading, b)
 }
 
 // Whether a byte is one more digit behind others, which the limit lets pass. (It is asked before the byte is taken, so that the loop has
-// this case alone.)
+// this case alone. How large the size is stays a clause: the record crosses to C as it is, and any number may stand in it.)
 fn is_more(size: u64, b: u8) -> bool
     requires { size ≤ 2 ^ 40 }
     ensures { result ≡ is_more size b }
@@ -51,11 +48,12 @@ fn is_more(size: u64, b: u8) -> bool
     digit_from(b'0', b) && size * 10 + u64::from(b - b'0') <= LIMIT
 }
 
-// The bytes from a place on, of a record that is in its digits, or takes none of them.
+// Bytes, of a record that is in its digits, or takes none of them. (Record and bytes stay two parameters, as C hands them over. The loop
+// stays by hand: it goes on with what it has kept, and a search by `position` would read the digits and leave their worth to a second loop.)
 #[tactic(auto, using(crate::proofs::Bytes::settled_stays, theorem_numbers::proofs::Pieces::unsound_is_over, theorem_numbers::proofs::Going::stays))]
-pub fn digits(reading: NumberReading, bytes: &[u8], from: usize) -> NumberReading
-    requires { Settled reading (drop from bytes.now) }
-    ensures { result ≡ go_on reading (drop from bytes.now) }
+pub fn digits(reading: NumberReading, bytes: &[u8]) -> NumberReading
+    requires { Settled reading bytes.now }
+    ensures { result ≡ go_on reading bytes.now }
 {
     if reading.stage != DIGITS {
         return reading;
@@ -64,8 +62,7 @@ pub fn digits(reading: NumberReading, bytes: &[u8], from: usize) -> NumberReadin
         return reading;
     }
     let mut kept = reading;
-    for i in from..bytes.len() {
-        let b = bytes[i];
+    for &b in bytes {
         if !is_more(kept.size, b) {
             return taken(kept, b);
         }

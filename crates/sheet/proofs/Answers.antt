@@ -27,6 +27,8 @@ use Rattle.rules.specs.SheetAnswers.{
 }
 use Rattle.sheet_record.specs.declared.SheetNumbers.{SheetNumbers}
 use Rattle.sheet_record.specs.Held.{ReadOf}
+use Rattle.sheet_record.specs.Reached.{Reached}
+use Rattle.sheet_columns.proofs.Read.{reached}
 use Rattle.sheet_reader.specs.Says.{SheetSays}
 
 -- what the reader's answer says of the judge's
@@ -38,6 +40,10 @@ pub record Readable (j : Judged) (n : SheetNumbers) (points start end : List ℤ
 pub it_is_readable : (points start end : List ℤ) (j : Judged) (n : SheetNumbers) → SheetSays j (Ok n) points start end → Readable j n points start end
 it_is_readable points start end (readable s) n h = record { «sheet» = s; is = refl; read = h }
 it_is_readable points start end (refused k place) n h = absurd h
+
+-- and it is within reach of the code that goes on with it
+pub it_is_reached : (points start end : List ℤ) (j : Judged) (n : SheetNumbers) → SheetSays j (Ok n) points start end → Reached n points start end
+it_is_reached points start end j n h = reached (it_is_readable points start end j n h).read
 
 pub it_is_refused : (points start end : List ℤ) (j : Judged) (e : SheetError) → SheetSays j (Err e) points start end
     → j ≡ refused (number_of e.cause) e.at

@@ -7,6 +7,7 @@ ghost use Rattle.rules.specs.SheetAnswers.{place_answered, sheet_answered, sheet
 
 use rules::{PathRecord, SheetError};
 use sheet_reader::read_sheet;
+use sheet_record::SheetRead;
 
 // What 8 axes take of points, and of a state's numbers: one more of each than an axis may have.
 const POINTS_ROOM: usize = 2064;
@@ -20,8 +21,14 @@ pub fn read_place(text: &[u8]) -> Result<(), SheetError>
     let mut points = [0; POINTS_ROOM];
     let mut start = [0; STATE_ROOM];
     let mut end = [0; STATE_ROOM];
-    let n = read_sheet(text, &mut points, &mut start, &mut end)?;
-    match sheet_questions::number_of(n, &points, &start, &end) {
+    let numbers = read_sheet(text, &mut points, &mut start, &mut end)?;
+    let read = SheetRead {
+        numbers,
+        points: &points,
+        start: &start,
+        end: &end,
+    };
+    match sheet_questions::number_of(read) {
         Ok(()) => Ok(()),
         Err(cause) => Err(SheetError {
             cause,
@@ -39,8 +46,14 @@ pub fn build_sheet(text: &[u8], coeffs: &mut [f64]) -> Result<PathRecord, SheetE
     let mut points = [0; POINTS_ROOM];
     let mut start = [0; STATE_ROOM];
     let mut end = [0; STATE_ROOM];
-    let n = read_sheet(text, &mut points, &mut start, &mut end)?;
-    match sheet_table::build_read(n, &points, &start, &end, coeffs) {
+    let numbers = read_sheet(text, &mut points, &mut start, &mut end)?;
+    let read = SheetRead {
+        numbers,
+        points: &points,
+        start: &start,
+        end: &end,
+    };
+    match sheet_table::build_read(read, coeffs) {
         Ok(path) => Ok(path),
         Err(cause) => Err(SheetError {
             cause,

@@ -1,4 +1,7 @@
 // The pieces of the program's output that are written as they are, onto a page: fixed bytes, and bits in hex.
+//
+// Printing stays by hand, here and in the crates above: the output goes into a buffer that is lent, and no call fails. `write!` hands back
+// a `Result` of which no clause of std says that it is `Ok`.
 #![tactic(auto)]
 
 ghost use Rattle.std.specs.Prelude.{◌≡◌, ◌<◌, length};
@@ -8,7 +11,8 @@ ghost use Rattle.rules.specs.SheetAnswers.{hex_digit, hex};
 ghost use Rattle.sheet_bits.specs.Page.{HasRoom, Wrote};
 ghost use Rattle.sheet_bits.specs.Coefficients.{coefficient};
 
-// A buffer that is lent, and the place up to which it is written.
+// A buffer that is lent, and the place up to which it is written. (The place stays a number beside the buffer: std's `Cursor` is that too,
+// and a write to it hands back a `Result`, which each caller would have to take apart.)
 #[derive(Drop)]
 pub struct Page<'a> {
     pub buffer: &'a mut [u8],
@@ -46,7 +50,8 @@ fn hex_digit(digit: u64) -> u8
     DIGITS[digit as usize]
 }
 
-// J11: 64 bits as 16 digits, the highest first.
+// J11: 64 bits as 16 digits, the highest first. (It stays a routine that writes into its part of the page: digits that were handed back in
+// an array, to be put like other bytes, made the output of the longest table take 1.2 times as long.)
 fn write_hex(places: &mut [u8], bits: u64)
     requires { length places.old ≡ 16 }
     ensures { places.new ≡ hex bits }
@@ -59,7 +64,8 @@ fn write_hex(places: &mut [u8], bits: u64)
 // The one NaN that the definitions know.
 const NAN_BITS: u64 = 0x7ff8_0000_0000_0000;
 
-// J11: "the bits of each coefficient". Every NaN has those of that one.
+// J11: "the bits of each coefficient". Every NaN has those of that one. (It stays a twin of the one in crates/test_input, with which the
+// test programs compare: what they compare is not worked out by what they test.)
 fn bits_of(x: f64) -> u64
     ensures { result ≡ to_bits binary64 x }
 {

@@ -1,21 +1,23 @@
 -- What was read of a sheet is within reach of the code, and what is built of it is what the sheet stands for. Assumes nothing.
 use mathlib.Core.Path.{◌≡◌, refl, sym, ap, ◌∙◌, subst}
 use mathlib.Core.List.{List, [], ◌∷◌}
-use Prim.Native.Nat.{ℕ, suc, ◌*◌, ◌-◌, ◌≤◌, ◌<◌}
+use Prim.Native.Nat.{ℕ, suc, ◌-◌, ◌≤◌, ◌<◌}
 use native.Mathlib.Nat.{le_trans, le_of_eq, mul-le-mul_right}
 use native.Mathlib.Omega.{arith}
 use lib.IntN.{ℤ}
-use lib.ListN.{length, get_or, take}
-use lib.Ieee.{Float, binary64, of_int}
+use lib.ListN.{length, get_or}
+use lib.Ieee.{binary64, of_int}
 use Rattle.law_lists.proofs.Filling.{listed_ext, joined_ext}
 use Rattle.rules.specs.Sheets.{Axis, range, heading, Sheet, sheet}
-use Rattle.rules.specs.Build.{BuildInput, table_length, input_of}
+use Rattle.rules.specs.Build.{table_length}
 use Rattle.rules.specs.SheetAnswers.{points_of, start_of, end_of, of_each, columns_of, column_major, order_of, sheet_input, cells_of}
 use Rattle.sheet_record.specs.declared.SheetNumbers.{SheetNumbers}
 use Rattle.sheet_record.specs.Held.{Near, Held, axes_in, ReadOf}
-use Rattle.sheet_columns.specs.Columns.{columns_at, InReach}
-use Rattle.sheet_config.specs.Config.{config_read}
-use Rattle.sheet_columns.specs.Input.{input_read, Reached, Prepared}
+use Rattle.sheet_record.specs.Reached.{InReach, Reached}
+use Rattle.sheet_record.specs.declared.SheetRead.{SheetRead}
+use Rattle.sheet_record.specs.ReadOf.{IsReadOf}
+use Rattle.sheet_columns.specs.Columns.{columns_at}
+use Rattle.sheet_columns.specs.Input.{input_read}
 use Rattle.sheet_columns.proofs.States.{columns_long}
 
 pub length-of_each : (f : Axis → List ℤ) (axes : List Axis) → length (of_each f axes) ≡ length axes
@@ -88,9 +90,9 @@ module _ {s : Sheet} {n : SheetNumbers} {points start end : List ℤ} (h : ReadO
       ap (λ (r : ℕ). columns_at stride r columns buffer) (sym (rows f)) ∙ columns_held held long ∙ ap (column_major (each f)) e
 
 -- J9, J26: what is built of what was read is what the sheet stands for
-pub input_read_lem : (s : Sheet) {n : SheetNumbers} {points start end : List ℤ} → ReadOf s n points start end → input_read n points start end ≡ sheet_input s
+pub input_is : (s : Sheet) (read : SheetRead) → IsReadOf s read → input_read read ≡ sheet_input s
 unfolding sheet_input
-input_read_lem (sheet (heading order (range from to)) axes) h =
+input_is (sheet (heading order (range from to)) axes) read h =
     cc (
       points_are_read h,
       major h points_of h.points_held (points_long h) (points_are_read h),
@@ -99,14 +101,7 @@ input_read_lem (sheet (heading order (range from to)) axes) h =
     )
 
 -- with as many coefficients
-pub cells_read : (s : Sheet) {n : SheetNumbers} {points start end : List ℤ} → ReadOf s n points start end
-    → table_length n.axes (n.points - 1) (order_of n.order) ≡ cells_of (sheet_input s)
+pub cells_are : (s : Sheet) (read : SheetRead) → IsReadOf s read
+    → let n = read.numbers in table_length n.axes (n.points - 1) (order_of n.order) ≡ cells_of (sheet_input s)
 unfolding cells_of
-cells_read s h = ap cells_of (input_read_lem s h)
-
--- and so is what a build is given
-pub input_given : (s : Sheet) {n : SheetNumbers} {points start end : List ℤ} {waypoints first last : List Float} {b : BuildInput}
-    → ReadOf s n points start end → Prepared n points start end waypoints first last
-    → b ≡ input_of (config_read n) n.points n.axes (take (n.points * n.axes) waypoints) (take (n.start * n.axes) first) (take (n.end * n.axes) last)
-    → b ≡ sheet_input s
-input_given s read p e = e ∙ simp (p.waypoints_are, p.first_is, p.last_is) (input_read_lem s read)
+cells_are s read h = ap cells_of (input_is s read h)

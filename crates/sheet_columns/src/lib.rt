@@ -2,72 +2,83 @@
 // crates/sheet_record; crates/sheet_table builds.
 #![tactic(auto)]
 
-ghost use Rattle.std.specs.Prelude.{◌≡◌, ◌++◌, ◌+◌, ◌*◌, ◌≤◌, length, take, drop};
+ghost use Rattle.std.specs.Prelude.{◌≡◌, ◌++◌, ◌+◌, ◌*◌, ◌≤◌, ◌<◌, length, drop};
 ghost use Rattle.law_lists.specs.Lists.{listed};
-ghost use Rattle.rules.specs.Build.{given_by, input_of};
-ghost use Rattle.sheet_config.specs.Config.{Small, config_read};
-ghost use Rattle.sheet_columns.specs.Columns.{InReach, number_at, columns_at};
-ghost use Rattle.sheet_columns.specs.Input.{Reached, Prepared};
+ghost use Rattle.rules.specs.Build.{given_by};
+ghost use Rattle.sheet_record.specs.Reached.{InReach};
+ghost use Rattle.sheet_columns.specs.Columns.{number_at, columns_at};
+ghost use Rattle.sheet_columns.specs.Input.{input_read};
 
 use rules::SplineInput;
-use sheet_record::SheetNumbers;
+use sheet_record::SheetRead;
 
-// Column k: number k of each list.
-fn column(lists: &[i64], stride: usize, rows: usize, k: usize, out: &mut [f64])
-    requires { InReach stride rows (k + 1) lists.now × (length out.old ≡ rows) }
-    ensures { out.new ≡ listed rows (number_at stride lists.now k) }
-{
-    for a in 0..rows {
-        out[a] = lists[a * stride + k] as f64;
+// So many lists in a buffer, each as far from the next as the stride, with so many numbers each. (Stride, rows and columns stay numbers
+// beside the buffer: between the lists are places that were not written, and a list of the lists would need room of its own.)
+#[derive(Clone, Copy)]
+struct Lists<'a> {
+    buffer: &'a [i64],
+    stride: usize,
+    rows: usize,
+    columns: usize,
+    ghost reached: { InReach stride rows columns buffer.now },
+}
+
+impl Lists<'_> {
+    // Column k: number k of each list.
+    fn column(&self, k: usize, out: &mut [f64])
+        requires { (k < self.now.columns) × (length out.old ≡ self.now.rows) }
+        ensures { out.new ≡ listed self.now.rows (number_at self.now.stride self.now.buffer.now k) }
+    {
+        for (a, x) in out.iter_mut().enumerate() {
+            *x = self.buffer[a * self.stride + k] as f64;
+        }
+    }
+
+    // B11, B12: all numbers, column-major, in the first cells of a buffer.
+    fn transpose(&self, out: &mut [f64])
+        requires { self.now.columns * self.now.rows ≤ length out.old }
+        ensures { out.new
+            ≡ columns_at self.now.stride self.now.rows self.now.columns self.now.buffer.now ++ drop (self.now.columns * self.now.rows) out.old }
+    {
+        for k in 0..self.columns {
+            let at = k * self.rows;
+            self.column(k, &mut out[at..at + self.rows]);
+        }
     }
 }
 
-// B11, B12: lists of so many numbers, column-major, in the first cells of a buffer.
-fn transpose(lists: &[i64], stride: usize, rows: usize, columns: usize, out: &mut [f64])
-    requires { InReach stride rows columns lists.now × (columns * rows ≤ length out.old) }
-    ensures { out.new
-        ≡ columns_at stride rows columns lists.now ++ drop (columns * rows) out.old }
-{
-    for k in 0..columns {
-        let at = k * rows;
-        column(lists, stride, rows, k, &mut out[at..at + rows]);
-    }
-}
-
-// B11, B12: the waypoints and the states' numbers, in the first cells of their lists.
-pub fn prepare(
-    n: SheetNumbers,
-    points: &[i64],
-    start: &[i64],
-    end: &[i64],
-    waypoints: &mut [f64],
-    first: &mut [f64],
-    last: &mut [f64],
-)
-    requires { Reached n points.now start.now end.now
-        × (length waypoints.old ≡ 2056)
-        × (length first.old ≡ 24)
-        × (length last.old ≡ 24) }
-    ensures { Prepared n points.now start.now end.now
-        waypoints.new first.new last.new }
-{
-    let axes = n.axes;
-    transpose(points, 258, axes, n.points, waypoints);
-    transpose(start, 4, axes, n.start, first);
-    transpose(end, 4, axes, n.end, last);
-}
-
-// What a build is given: the configuration, and the first cells of the lists.
+// B11, B12: what a build is given of what was read: the configuration, and the lists by columns, which are written into arrays that are
+// lent.
 pub fn input<'a>(
-    n: SheetNumbers,
-    waypoints: &'a [f64],
-    first: &'a [f64],
-    last: &'a [f64],
+    read: SheetRead,
+    waypoints: &'a mut [f64; 2056],
+    first: &'a mut [f64; 24],
+    last: &'a mut [f64; 24],
 ) -> SplineInput<'a>
-    requires { Small n × (length waypoints.now ≡ 2056) × (length first.now ≡ 24) × (length last.now ≡ 24) }
-    ensures { given_by result ≡ input_of (config_read n) n.points n.axes
-        (take (n.points * n.axes) waypoints.now) (take (n.start * n.axes) first.now) (take (n.end * n.axes) last.now) }
+    ensures { given_by result ≡ input_read read.entry }
 {
+    let n = read.numbers;
+    let points = Lists {
+        buffer: read.points,
+        stride: 258,
+        rows: n.axes,
+        columns: n.points,
+    };
+    let start = Lists {
+        buffer: read.start,
+        stride: 4,
+        rows: n.axes,
+        columns: n.start,
+    };
+    let end = Lists {
+        buffer: read.end,
+        stride: 4,
+        rows: n.axes,
+        columns: n.end,
+    };
+    points.transpose(waypoints);
+    start.transpose(first);
+    end.transpose(last);
     SplineInput {
         config: sheet_config::config_of(n),
         points: n.points,

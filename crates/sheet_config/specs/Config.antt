@@ -1,5 +1,5 @@
 -- What a build is told of what was read. Assumes nothing.
-use Rattle.std.specs.Prelude.{false, ℕ, ◌≤◌, ℤ}
+use Rattle.std.specs.Prelude.{false, ℕ, ℤ}
 use Rattle.std.specs.Float.{binary64}
 use Rattle.std.specs.Float.Ieee.{of_int}
 use Rattle.rules.specs.declared.OutOfRangeMode.TheVariants.{Error}
@@ -7,7 +7,6 @@ use Rattle.rules.specs.declared.SplineConfig.{SplineConfig}
 use Rattle.rules.specs.Build.{given}
 use Rattle.rules.specs.SheetAnswers.{order_of}
 use Rattle.sheet_record.specs.declared.SheetNumbers.{SheetNumbers}
-use Rattle.sheet_record.specs.Held.{Near}
 
 -- J9: "in mode Error with unmarked states"
 abbrev pub config_of : ℕ → ℤ → ℤ → ℕ → ℕ → ℕ → SplineConfig
@@ -22,14 +21,3 @@ config_of order from to axes start end = record {
 
 abbrev pub config_read : SheetNumbers → SplineConfig
 config_read n = config_of (order_of n.order) n.from n.to n.axes n.start n.end
-
--- how large the numbers are
-pub record Small (n : SheetNumbers) : Type 0 where
-  pub order_near : Near n.order
-  pub from_near : Near n.from
-  pub to_near : Near n.to
-  pub few_axes : n.axes ≤ 8
-  pub some_points : 1 ≤ n.points
-  pub few_points : n.points ≤ 257
-  pub few_start : n.start ≤ 3
-  pub few_end : n.end ≤ 3

@@ -5,7 +5,8 @@ ghost use Rattle.std.specs.Prelude.{◌≡◌, false, ◌-◌, ◌^◌, ◌≤�
 ghost use Rattle.rules.specs.Build.{table_length, given};
 ghost use Rattle.rules.specs.SheetAnswers.{order_of};
 ghost use Rattle.sheet_record.specs.Held.{Near};
-ghost use Rattle.sheet_config.specs.Config.{Small, config_read};
+ghost use Rattle.sheet_record.specs.Reached.{Small};
+ghost use Rattle.sheet_config.specs.Config.{config_read};
 
 use rules::{BoundaryState, OutOfRangeMode, PathParam, SplineConfig};
 use sheet_record::SheetNumbers;

@@ -1,13 +1,17 @@
 // The lines of the program's output, each written byte for byte onto a page: those of crates/rules/specs/SheetAnswers.antt.
 // That a buffer of 302,240 bytes is long enough for every output is shown in proofs/Fits.antt.
+//
+// Printing stays by hand, as crates/sheet_bits says. Page and coefficients stay two parameters: the page is written and goes on to the next
+// routine as it is, of the coefficients that are read each routine hands on another part.
 #![tactic(auto)]
 
 ghost use Rattle.std.specs.Prelude.{◌≡◌, ◌++◌, ◌≤◌, length, drop};
+ghost use Rattle.rules.specs.Questions.{number_of};
 ghost use Rattle.rules.specs.SheetAnswers.{seg_line, refused_output};
 ghost use Rattle.sheet_bits.specs.Page.{HasRoom, Wrote};
 ghost use Rattle.sheet_lines.specs.Output.{table_line, coefficients_of};
 
-use rules::PathRecord;
+use rules::{PathRecord, SheetError};
 use sheet_bits::{Page, put_coefficient};
 use sheet_digits::put_number;
 
@@ -22,6 +26,7 @@ fn put_coefficients(page: &mut Page, coeffs: &[f64])
 }
 
 // J11: a segment's line: "axis, segment and the bits of each coefficient".
+#[tactic(auto, using(crate::proofs::Lengths::length_line))]
 pub fn put_segment(page: &mut Page, axis: usize, segment: usize, coeffs: &[f64])
     requires { HasRoom page.old (seg_line axis segment coeffs.now) }
     ensures { Wrote page.old (seg_line axis segment coeffs.now) page.new }
@@ -44,14 +49,16 @@ pub fn put_table_line(page: &mut Page, path: PathRecord)
 }
 
 // J12: a refusal, "number and byte place", and how many bytes that is. 42 bytes are enough for each.
-pub fn write_refused(number: u32, at: usize, out: &mut [u8]) -> usize
+#[tactic(auto, using(crate::proofs::Fits::most_refusal))]
+pub fn write_refused(refusal: SheetError, out: &mut [u8]) -> usize
     requires { 42 ≤ length out.old }
-    ensures { (result ≡ length (refused_output number at))
-        × (out.new ≡ refused_output number at ++ drop (length (refused_output number at)) out.old) }
+    ensures { let bytes = refused_output (number_of refusal.cause) refusal.at in
+        (result ≡ length bytes) × (out.new ≡ bytes ++ drop (length bytes) out.old) }
 {
+    let number = u32::from(refusal.cause);
     let mut page = Page::new(out);
     put_number(&mut page, b"(refused ", number as usize);
-    put_number(&mut page, b" ", at);
+    put_number(&mut page, b" ", refusal.at);
     page.put_bytes(b")\n");
     page.at
 }

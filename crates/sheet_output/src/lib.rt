@@ -1,5 +1,6 @@
 // The program's output for a table, written byte for byte into a buffer that is lent: that of crates/rules/specs/SheetAnswers.antt.
-// Its lines are written by crates/sheet_lines.
+// Its lines are written by crates/sheet_lines. (Printing stays by hand, as crates/sheet_bits says; page and coefficients stay two
+// parameters, as crates/sheet_lines says.)
 #![tactic(auto)]
 
 ghost use Rattle.std.specs.Prelude.{◌≡◌, ◌++◌, ◌+◌, ◌*◌, ◌≤◌, length, drop};

@@ -1,4 +1,5 @@
-// The program's whole output for a job sheet. It takes any text and buffers of any length.
+// The program's whole output for a job sheet. It takes any text and buffers of any length. (Printing stays by hand, as crates/sheet_bits
+// says.)
 #![tactic(auto)]
 
 ghost use Rattle.std.specs.Prelude.{◌≡◌, ◌++◌, ◌≤◌, length, drop};
@@ -19,7 +20,7 @@ fn write_answer(answer: Result<PathRecord, SheetError>, coeffs: &[f64], out: &mu
             let cells = path.axes * path.segments * (path.order + 1);
             sheet_output::write_table(path, &coeffs[..cells], out)
         }
-        Err(refusal) => sheet_lines::write_refused(u32::from(refusal.cause), refusal.at, out),
+        Err(refusal) => sheet_lines::write_refused(refusal, out),
     }
 }
 

@@ -48,8 +48,3 @@ pub record ReadOf (s : Sheet) (n : SheetNumbers) (points start end : List ℤ) :
   pub points_held : Held 258 (of_each points_of (axes_in s)) points
   pub start_held : Held 4 (of_each start_of (axes_in s)) start
   pub end_held : Held 4 (of_each end_of (axes_in s)) end
-
--- a sheet of which this was read
-pub record ReadOfSome (n : SheetNumbers) (points start end : List ℤ) : Type 0 where
-  pub «sheet» : Sheet
-  pub read : ReadOf «sheet» n points start end

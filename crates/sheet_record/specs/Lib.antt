@@ -1,1 +1,3 @@
 pub mod Held
+pub mod Reached
+pub mod ReadOf

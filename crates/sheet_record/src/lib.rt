@@ -2,6 +2,8 @@
 // specs/. This crate has no code.
 #![tactic(auto)]
 
+ghost use Rattle.sheet_record.specs.Reached.{Reached};
+
 // The numbers of the heading, how many axes and points there are, and how many numbers each start list and each end list has (0 where
 // they differ).
 #[derive(Clone, Copy)]
@@ -13,4 +15,14 @@ pub struct SheetNumbers {
     pub points: usize,
     pub start: usize,
     pub end: usize,
+}
+
+// What was read of a sheet: its numbers, and its lists in the buffers of each kind, which are lent.
+#[derive(Clone, Copy)]
+pub struct SheetRead<'a> {
+    pub numbers: SheetNumbers,
+    pub points: &'a [i64],
+    pub start: &'a [i64],
+    pub end: &'a [i64],
+    pub ghost reached: { Reached numbers points.now start.now end.now },
 }

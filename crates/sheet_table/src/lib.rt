@@ -6,22 +6,15 @@ ghost use Rattle.std.specs.Prelude.{◌≡◌, ◌++◌, min, length, take, drop
 ghost use Rattle.rules.specs.Build.{build_answered, build_answer, buffer_after};
 ghost use Rattle.rules.specs.Sheets.{Sheet};
 ghost use Rattle.rules.specs.SheetAnswers.{sheet_input, cells_of};
-ghost use Rattle.sheet_record.specs.Held.{ReadOf, ReadOfSome};
+ghost use Rattle.sheet_record.specs.ReadOf.{IsReadOf};
 
 use rules::{PathError, PathRecord};
-use sheet_record::SheetNumbers;
+use sheet_record::SheetRead;
 
 // J9, J13: the build. The table goes into the first cells of the buffer, and the others stay, so only a buffer that is too short is
 // of another length.
-pub fn build_read(
-    n: SheetNumbers,
-    points: &[i64],
-    start: &[i64],
-    end: &[i64],
-    coeffs: &mut [f64],
-) -> Result<PathRecord, PathError>
-    requires { ReadOfSome n points.now start.now end.now }
-    ensures { (s : Sheet) → ReadOf s n points.now start.now end.now
+pub fn build_read(read: SheetRead, coeffs: &mut [f64]) -> Result<PathRecord, PathError>
+    ensures { (s : Sheet) → IsReadOf s read.entry
         → let b = sheet_input s in
         let before = coeffs.old in
         (build_answered result ≡ build_answer b (min (length before) (cells_of b)))
@@ -30,9 +23,8 @@ pub fn build_read(
     let mut waypoints = [0.0; 2056];
     let mut first = [0.0; 24];
     let mut last = [0.0; 24];
-    sheet_columns::prepare(n, points, start, end, &mut waypoints, &mut first, &mut last);
-    let input = sheet_columns::input(n, &waypoints, &first, &last);
-    let cells = sheet_config::cells_of(n);
+    let input = sheet_columns::input(read, &mut waypoints, &mut first, &mut last);
+    let cells = sheet_config::cells_of(read.numbers);
     let room = coeffs.len().min(cells);
     build::from_waypoints_view(input, &mut coeffs[..room])
 }

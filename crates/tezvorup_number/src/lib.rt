@@ -1,5 +1,6 @@
 // What C and Rust call to read a number on a job sheet whose bytes come in pieces: the routines of crates/number. Both records cross the
-// boundary as they are; `spline_number` is rules::NumberReading, and `spline_whole` is rules::NumberAnswer.
+// boundary as they are; `spline_number` is rules::NumberReading, and `spline_whole` is rules::NumberAnswer. Each stays a call of one line:
+// an exported name is a function of its own, and here is all that C calls.
 #![tactic(auto)]
 
 ghost use Rattle.std.specs.Prelude.{◌≡◌};
@@ -15,7 +16,7 @@ pub extern "C" fn spline_begin_number(at: usize) -> NumberReading
     number::begin(at)
 }
 
-// A1, N2, N6: the next bytes.
+// A1, N2, N6: the next bytes. (Record and bytes stay two parameters: C hands them over so.)
 #[unsafe(no_mangle)]
 pub extern "C" fn spline_continue_number(reading: NumberReading, bytes: &[u8]) -> NumberReading
     ensures { result ≡ go_on reading bytes.now }

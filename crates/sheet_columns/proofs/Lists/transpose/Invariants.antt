@@ -2,7 +2,7 @@
 use Rattle.law_lists.specs.Lists.{listed}
 use Rattle.law_lists.proofs.PartedList.{Parted}
 use Rattle.sheet_columns.specs.Columns.{number_at}
-use Rattle.sheet_columns.proofs.transpose.Given as goal
+use Rattle.sheet_columns.proofs.Lists.transpose.Given as goal
 
 abbrev pub invariant-loop-k : goal.invariant-loop-k
-invariant-loop-k l = Parted l.rows l.k (λ k. listed l.rows (number_at l.stride l.lists k)) l.fn.out l.out
+invariant-loop-k l = Parted l.self.rows l.k (λ k. listed l.self.rows (number_at l.self.stride l.self.buffer.now k)) l.fn.out l.out
