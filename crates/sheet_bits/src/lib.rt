@@ -1,7 +1,7 @@
 // The pieces of the program's output that are written as they are, onto a page: fixed bytes, and bits in hex.
 //
-// Printing stays by hand, here and in the crates above: the output goes into a buffer that is lent, and no call fails. `write!` hands back
-// a `Result` of which no clause of std says that it is `Ok`.
+// Printing stays by hand, here and in the crates above: it goes into a lent buffer that has room and cannot fail, while `write!` hands back
+// a `Result` of which no clause of std says that it is `Ok`, so that each caller would have an error to answer that never comes.
 #![tactic(auto)]
 
 ghost use Rattle.std.specs.Prelude.{◌≡◌, ◌<◌, length};

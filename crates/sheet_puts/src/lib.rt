@@ -1,7 +1,7 @@
 // Numbers of a list, written into a buffer one after the other, as many as it holds. A buffer that is one longer than it need be
 // tells by being full that there were too many.
 //
-// Buffer and place stay two parameters, with their bounds as clauses. A struct that holds the lent buffer is written through: each routine
+// Buffer and place stay two parameters, with their bounds as clauses: a struct that holds a lent buffer is written through, so each routine
 // up to the one that lends it would have to promise, beside its result, that the buffer in it is still the same one and as long, as `Wrote`
 // of crates/sheet_bits does. A slice that is lent says so itself.
 #![tactic(auto)]
@@ -24,9 +24,9 @@ pub fn push(out: &mut [i64], at: usize, z: i64) -> usize
 }
 
 // J5: the numbers from `at` to `end`, which were just written, n times over: copied, as far as there is room, and never read again. (The
-// loop stays by hand: it reads what it wrote a block before, and an iterator over the slice that is written lends no part to read.
-// `copy_within` copies one block, so a loop over the blocks would stand round it and cut the last one short. That n is at least 1 stays a
-// clause: `NonZero` would say this bound, and 64 would be asked all the same.)
+// loop stays by hand: it reads what it wrote a block before, which no iterator over the slice that is written lends, and `copy_within`
+// copies one block, so that a loop over the blocks would stand round it and cut the last one short. That n is at least 1 stays a clause:
+// `NonZero` would say this bound, and 64 would be asked all the same.)
 pub fn repeat(out: &mut [i64], at: usize, end: usize, n: usize) -> usize
     requires { (at ≤ end) × (end ≤ length out.old) × (1 ≤ n) × (n ≤ 64) × (length out.old ≤ 258) }
     ensures { (result ≡ min (length out.old) (at + n * (end - at)))
