@@ -2,8 +2,9 @@
 // and solved with by crates/build_solving. What each function does is said by the definitions of
 // crates/rules/specs/Solve.antt, for every m.
 //
-// What is filled stays a parameter beside the tables, and the three lists of the nodes stay three: each call lends another part, as
-// `&mut out[at..at + m]`, so a struct of the tables and that part would be made for the one call, and taken apart in it again.
+// What is filled stays a parameter beside the tables: each call lends another part, as `&mut out[at..at + m]`, so a struct of the tables
+// and that part would be made for the one call, and taken apart in it again. The three lists of the nodes stay three, as crates/build_axes
+// says.
 #![tactic(auto)]
 
 ghost use Rattle.std.specs.Prelude.{◌≡◌, ◌+◌, ◌*◌, ◌≤◌, ◌<◌, ◌++◌, length, drop};

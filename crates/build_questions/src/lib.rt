@@ -11,7 +11,8 @@ ghost use Rattle.rules.specs.Build.{given_by, valid_state, finite_state, build_q
 use build_shape::shape_questions;
 use rules::{BoundaryState, PathError, SplineInput};
 
-// B6: of a state, with the numbers beside it. A build's input has them apart, as C does, so a struct of both would be made for two calls.
+// B6: of a state, with the numbers beside it. They stay two parameters: a build's input has them apart, as C does, and it is the build that
+// puts both into one struct, `EndState` of crates/build_plan, after they have passed these questions.
 // (m stays a parameter: it comes from the order, and the numbers are axes * m only where this says yes.)
 #[tactic(auto, unfolding(rules::specs::Build::valid_state))]
 fn valid_state(axes: usize, m: usize, state: Option<BoundaryState>, numbers: &[f64]) -> bool

@@ -37,7 +37,7 @@ impl<'a> AxisWaypoints<'a> {
     }
 }
 
-// R5: "R[·,0] × dy before + R[·,1] × dy after".
+// R5: "R[·,0] × dy before + R[·,1] × dy after", as many as `out` has room for.
 pub fn compute_rhs(r: &[f64], dy_prev: f64, dy_next: f64, out: &mut [f64])
     requires { length r.now ≡ length out.old * 2 }
     ensures { out.new

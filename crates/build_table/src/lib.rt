@@ -8,8 +8,8 @@ ghost use Rattle.build_filling.specs.AllAxes.{cells_of, all_axes};
 use build_plan::Plan;
 
 // Lists for so many entries of the matrices that differ, so many of their rows, and so many numbers of the inner nodes.
-// (Plan and buffer stay two parameters, and the buffer's length stays a clause: a struct of both would hold the buffer as `&mut`, and each
-// function would promise too that it still lends the same list, by the same plan.)
+// (Plan and buffer stay two parameters, and the buffer's length stays a clause: a struct of both would hold the buffer as `&mut`, and be
+// made once, for three functions that hand it on; as `&mut self` each would promise too that it still lends the same list.)
 #[inline(never)]
 fn fill_with<const ENTRIES: usize, const ROWS: usize, const NUMBERS: usize>(
     plan: &Plan,

@@ -48,7 +48,7 @@ fn rounded_word(negative: bool, w: u64, g: u64) -> f64
 }
 
 // `words` * 2^`exponent`, with its sign. The sign stays a bool beside the words, as in a float: a zero has one, too, and a type of signed
-// numbers of two words would be this pair again.
+// numbers of two words would be this pair again. (An enum of two signs would be made of the bits, and compared, where two bools are.)
 #[derive(Clone, Copy)]
 pub struct Term {
     pub negative: bool,

@@ -76,7 +76,7 @@ unfolding all
 all_of f [] d h = tt
 all_of f (x ∷ xs) d h = and_i (f x) (all f xs) (h 0 (omega arith)) (all_of f xs d (λ i l. h (suc i) (omega arith)))
 
--- a loop over a list, with i elements behind it, of which none is left
+-- a loop over a list, with i elements behind it and none left
 pub all_none_left : {A : Type 0} (f : A → Bool) (xs : List A) (i : ℕ) → i ≤ length xs → length xs ≤ i → all f (drop i xs) ≡ true
 unfolding all
 all_none_left f xs i h l = rw (le_antisymm h l, drop-length)

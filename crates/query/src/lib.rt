@@ -13,9 +13,9 @@ use query_questions::query_questions;
 use rules::{PathError, PathParam, PathRecord};
 
 // A1, D1, F9, Q12: the query. Every call is answered: served, and the buffers that the level writes hold the derivatives of each
-// axis; or refused by the first question that says no, and all four buffers are as they were. (The parameters stay plain: the path that
-// holds its record beside the coefficients stands above, in crates/query_path, and its thin functions call this one. The level stays a
-// number, since a caller may give any and is answered.)
+// axis; or refused by the first question that says no, and all four buffers are as they were. (The parameters stay plain: document 01
+// asks for thin functions of the struct that holds the record beside the coefficients, crates/query_path, and they call this one. The level
+// stays a number, since a caller may give any and is answered.)
 pub fn eval_at(
     path: PathRecord,
     coeffs: &[f64],

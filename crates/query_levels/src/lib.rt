@@ -1,6 +1,6 @@
 // A query's levels, the four buffers that a level may write, and document 01's questions of both. The questions look at lengths
-// alone, so that they can be asked without a buffer. (In them a level stays a number: they have taken any, and a `Level` would ask more of
-// who calls them.)
+// alone, so that they can be asked without a buffer. (In them a level stays a number: callers may hand over any, and a `Level` would ask
+// more of them.)
 #![tactic(auto)]
 
 ghost use Rattle.std.specs.Prelude.{◌≡◌};

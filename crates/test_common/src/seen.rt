@@ -68,7 +68,7 @@ impl<R: Read + Drop> Trial<R> {
     }
 
     // The array that a buffer is lent of from the ninth cell on, beside the next list of so many floats. All other cells have
-    // to be as they were, so that their number stays beside the whole array.
+    // to be as they were. (So the number of those that were written stays beside the whole array.)
     pub fn cells(&mut self, cells: &[f64], written: usize) {
         let mut before = FIRST;
         for (i, &cell) in cells.iter().enumerate() {

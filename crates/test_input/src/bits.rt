@@ -18,8 +18,8 @@ pub fn float(bits: u64) -> f64 {
     }
 }
 
-// Every NaN has the bits of the one that is written 7ff8000000000000. (It stays beside that of crates/sheet_bits: what tries the library
-// out leans on none of its code.)
+// Every NaN has the bits of the one that is written 7ff8000000000000. (It stays beside that of crates/sheet_bits, whose bits the trials of
+// sheets judge: a fault in one for both would not be seen.)
 pub fn bits_of(x: f64) -> u64 {
     if x.is_nan() {
         0x7ff8_0000_0000_0000

@@ -85,7 +85,7 @@ fn next_query<R: Read + Drop>(input: &mut Input<R>) -> Query {
 }
 
 // (A function of its own, so that what a query ensures is kept out of its callers' proofs. The `match` stays: the input says by a number
-// which entry point is meant, so that closures would be chosen by the same two cases. What it hands on stays apart, as both take it.)
+// which entry point is meant, so closures would be chosen by the same two cases. What it hands on stays apart, as both take it.)
 fn asked(
     query: Query,
     path: PathRecord,

@@ -81,11 +81,11 @@ pub struct RawSheet {
     pub path: RawPath,
 }
 
-// A1: the number of mode Clamp. (It stays a constant of its own: the 1 of crates/number_byte is a minus that was read.)
-const CLAMP: u8 = 1;
+// A1: the number of mode Clamp.
+const CLAMP: u8 = OutOfRangeMode::Clamp as u8;
 
 // What a query does outside the range, by its number. (It stays a function: neither type is this crate's, so a `From` would have to stand
-// in crates/rules, which knows nothing of C's modes.)
+// in crates/rules, and would make any number a mode there, too.)
 pub fn mode_of(mode: u8) -> OutOfRangeMode
     ensures { result ≡ mode_of mode }
 {
