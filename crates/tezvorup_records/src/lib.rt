@@ -1,4 +1,4 @@
-// The records that cross the boundary to C, field for field as include/tezvorup.h has them, and what they are made from and into. So kinds,
+// The records that cross the boundary to C, and what they are made from and into. Each has the fields that include/tezvorup.h has, so kinds,
 // modes and answers stay numbers in them. What they stand for is in specs/; what holds of them, with the numbers that each export can
 // answer, in crates/theorem_records.
 #![tactic(auto)]
