@@ -15,6 +15,7 @@ const POINTS_ROOM: usize = 2064;
 const STATE_ROOM: usize = 32;
 
 // A1, J12, J13: the refusal that the program prints, the build's questions included. Nothing is written.
+#[tactic(auto, using(crate::proofs::Answers::it_is_reached))]
 pub fn read_place(text: &[u8]) -> Result<(), SheetError>
     ensures { place_answered text.now result ≡ sheet_place text.now }
 {
@@ -39,6 +40,7 @@ pub fn read_place(text: &[u8]) -> Result<(), SheetError>
 
 // A1, D1, J9, J13, J27: the table of a sheet, built into the first cells of a buffer; the others stay as they were. 16,384 cells
 // always suffice, and a buffer that is too short is refused as one of another length is.
+#[tactic(auto, using(crate::proofs::Answers::it_is_reached))]
 pub fn build_sheet(text: &[u8], coeffs: &mut [f64]) -> Result<PathRecord, SheetError>
     ensures { (sheet_answered text.now result ≡ sheet_answer text.now (length coeffs.old))
         × (coeffs.new ≡ sheet_buffer text.now coeffs.old) }

@@ -1,12 +1,8 @@
 -- What was read is built, or refused. Assumes nothing.
 use Rattle.std.proofs.Common.{Ok, Err}
 use Rattle.std.proofs.lemmas.Result.{err_from_is_err_and}
-use Rattle.sheet.proofs.Answers.{it_is_readable, it_is_reached, it_is_refused, built, not_built}
+use Rattle.sheet.proofs.Answers.{it_is_readable, it_is_refused, built, not_built}
 use Rattle.sheet.proofs.build_sheet.Goals as goal
-
--- what was read is within reach
-pub invariant_of-read : goal.invariant_of-read
-invariant_of-read c = record { reached = it_is_reached _ _ _ _ _ c.in_ok-numbers.ensures }
 
 pub returns-in_err-numbers : goal.returns-in_err-numbers
 returns-in_err-numbers c =
