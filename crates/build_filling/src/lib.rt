@@ -42,11 +42,11 @@ pub fn fill_axes(plan: &Plan, nodes: &NodeMatrices, solved: &mut [f64], coeffs: 
             axis,
             waypoints,
         };
-        let own = Axis {
+        let this = Axis {
             nodes: &*nodes, // lent again, for this axis alone
             points,
             numbers: &numbers,
         };
-        thomas_row(&own, solved, &mut coeffs[at..at + stride]);
+        thomas_row(&this, solved, &mut coeffs[at..at + stride]);
     }
 }

@@ -92,7 +92,9 @@ impl NodeMatrices<'_> {
 }
 
 // One axis of a build: the inner nodes' matrices, which all axes share, its waypoints, and the m numbers of its first node and then
-// those of its last. (The waypoints are the caller's, and the rest is made for the call: so there are two lifetimes.)
+// those of its last. (The waypoints are the caller's, and the rest is made for the call: so there are two lifetimes. The two places that
+// make `BoundaryNumbers` of it stay two: a method for both would promise each of its three fields, and each caller would have to read them
+// there.)
 #[derive(Clone, Copy)]
 pub struct Axis<'a, 'b> {
     pub nodes: &'a NodeMatrices<'a>,

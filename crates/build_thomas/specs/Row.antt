@@ -7,8 +7,8 @@ use Rattle.build_sweeps.specs.declared.Axis.{Axis}
 use Rattle.build_sweeps.specs.OfAxis.{points_of}
 
 -- how many coefficients its segments have together
-abbrev pub cells_of : Axis → ℕ
-cells_of a = (a.nodes.now.n + 1) * (2 * a.nodes.now.tables.now.m + 2)
+abbrev pub axis_cells : Axis → ℕ
+axis_cells a = (a.nodes.now.n + 1) * (2 * a.nodes.now.tables.now.m + 2)
 
 -- segment i's coefficients, with its nodes' numbers as they are kept
 abbrev pub segment_of : Axis → List Float → ℕ → List Float

@@ -5,7 +5,7 @@
 ghost use Rattle.std.specs.Prelude.{◌≡◌, ◌+◌, ◌≤◌, length};
 ghost use Rattle.law_lists.specs.Lists.{joined};
 ghost use Rattle.build_sweeps.specs.OfAxis.{inner_length, coefficients_of};
-ghost use Rattle.build_thomas.specs.Row.{cells_of, segment_of};
+ghost use Rattle.build_thomas.specs.Row.{axis_cells, segment_of};
 
 use build_plan::BoundaryNumbers;
 use build_segments::{node_numbers, write_segment_coeffs};
@@ -13,7 +13,7 @@ use build_sweeps::Axis;
 
 // B14: the n + 1 segments, from the numbers of the inner nodes. (It stays a function of its own: it prints nothing, and fills numbers.)
 fn write_segments(axis: &Axis, solved: &[f64], chunk: &mut [f64])
-    requires { (inner_length axis.now ≤ length solved.now) × (length chunk.old ≡ cells_of axis.now) }
+    requires { (inner_length axis.now ≤ length solved.now) × (length chunk.old ≡ axis_cells axis.now) }
     ensures { chunk.new ≡ joined (axis.now.nodes.now.n + 1) (segment_of axis.now solved.now) }
 {
     let points = axis.points;
@@ -38,7 +38,7 @@ fn write_segments(axis: &Axis, solved: &[f64], chunk: &mut [f64])
 
 // An axis's coefficients. `solved` has room for the numbers of the inner nodes.
 pub fn thomas_row(axis: &Axis, solved: &mut [f64], chunk: &mut [f64])
-    requires { (inner_length axis.now ≤ length solved.old) × (length chunk.old ≡ cells_of axis.now) }
+    requires { (inner_length axis.now ≤ length solved.old) × (length chunk.old ≡ axis_cells axis.now) }
     ensures { chunk.new ≡ coefficients_of axis.now }
 {
     axis.inner_numbers(solved);

@@ -27,9 +27,6 @@ unfolding in_float
 exact (pos n) h = le→leb n (2 ^ 53) (le_trans h (lit≤ tt))
 exact (negsuc n) h = lt→ltb n (2 ^ 53) (le_trans h (lit≤ tt))
 
-pub exact_cast : (z : ℤ) → Near z → T (in_float binary64 (to_z w64 (of_z w64 z)))
-exact_cast z h = rw (back z h) (exact z h)
-
 pub order_near : (z : ℤ) → Near z → order_of z ≤ 2 ^ 40
 unfolding order_of
 order_near (pos n) h = h

@@ -9,7 +9,7 @@ use Rattle.build_sweeps.proofs.Points.{points_at, points_dy}
 use Rattle.build_sweeps.specs.declared.Axis.{Axis}
 use Rattle.build_sweeps.specs.OfAxis.{inner_length}
 use Rattle.build_segments.specs.NodeNumbers.{node_part}
-use Rattle.build_thomas.specs.Row.{cells_of}
+use Rattle.build_thomas.specs.Row.{axis_cells}
 use Rattle.build_thomas.proofs.write_segments.Goals as goal
 
 module _ (a : Axis) where
@@ -19,7 +19,7 @@ module _ (a : Axis) where
   node_length solved h = length_part a.nodes.now.tables.now.m a.nodes.now.n a.numbers.now solved a.both h
 
   -- the part for segment i is inside
-  inside : (chunk : List Float) → length chunk ≡ cells_of a → (i : ℕ) → i < a.nodes.now.n + 1
+  inside : (chunk : List Float) → length chunk ≡ axis_cells a → (i : ℕ) → i < a.nodes.now.n + 1
       → (let width = 2 * a.nodes.now.tables.now.m + 2 in i * width + width ≤ length chunk)
   inside chunk h i l = rw h (part_inside (2 * a.nodes.now.tables.now.m + 2) l)
 
