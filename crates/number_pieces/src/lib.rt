@@ -49,7 +49,8 @@ fn is_more(size: u64, b: u8) -> bool
 }
 
 // Bytes, of a record that is in its digits, or takes none of them. (Record and bytes stay two parameters, as C hands them over. The loop
-// stays by hand: it goes on with what it has kept, and a search by `position` would read the digits and leave their worth to a second loop.)
+// stays by hand: it goes on with what it has kept, and a search by `position` would read the digits and leave their worth to a second
+// loop.)
 #[tactic(auto, using(crate::proofs::Bytes::settled_stays, theorem_numbers::proofs::Pieces::unsound_is_over, theorem_numbers::proofs::Going::stays))]
 pub fn digits(reading: NumberReading, bytes: &[u8]) -> NumberReading
     requires { Settled reading bytes.now }

@@ -37,8 +37,8 @@ impl Lists<'_> {
     // B11, B12: all numbers, column-major, in the first cells of a buffer.
     fn transpose(&self, out: &mut [f64])
         requires { self.now.columns * self.now.rows ≤ length out.old }
-        ensures { out.new
-            ≡ columns_at self.now.stride self.now.rows self.now.columns self.now.buffer.now ++ drop (self.now.columns * self.now.rows) out.old }
+        ensures { let lists = self.now in
+            out.new ≡ columns_at lists.stride lists.rows lists.columns lists.buffer.now ++ drop (lists.columns * lists.rows) out.old }
     {
         for k in 0..self.columns {
             let at = k * self.rows;

@@ -12,7 +12,21 @@ use Rattle.rules.specs.declared.PathRecord.{PathRecord}
 use Rattle.rules.specs.declared.PathError.TheVariants.{InvalidLength}
 use Rattle.rules.specs.declared.SheetError.{SheetError}
 use Rattle.rules.specs.SheetFaults.{judge}
-use Rattle.rules.specs.SheetAnswers.{SheetAnswer, sheet_answered, count_answered, sheet_answer, sheet_served, sheet_buffer, sheet_output, sheet_printed, printed_cells, printed_bytes, most_cells, most_bytes, suffice}
+use Rattle.rules.specs.SheetAnswers.{
+  SheetAnswer,
+  sheet_answered,
+  count_answered,
+  sheet_answer,
+  sheet_served,
+  sheet_buffer,
+  sheet_output,
+  sheet_printed,
+  printed_cells,
+  printed_bytes,
+  most_cells,
+  most_bytes,
+  suffice,
+}
 use Rattle.sheet_print.specs.LongEnough.{LongEnough}
 use Rattle.sheet_print.specs.Printing.{Printable, IsPrintable, output_of}
 use Rattle.sheet_print.proofs.Enough.{long_enough}
