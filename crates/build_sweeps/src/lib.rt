@@ -109,7 +109,7 @@ impl Axis<'_, '_> {
     ghost use Rattle.law_lists.specs.Lists.{joined};
     ghost use Rattle.build_sweeps.specs.OfAxis.{inner_length, solved_sides, numbers_of};
 
-    // The solved right sides of all inner nodes. A dy is worked out once: the one after a node is the one before the next.
+    // R8, R10: the solved right sides of all inner nodes. A dy is worked out once: the one after a node is the one before the next.
     fn forward_sweep(&self, solved: &mut [f64])
         requires { inner_length self.now ≤ length solved.old }
         ensures { solved.new
