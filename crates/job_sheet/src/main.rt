@@ -22,7 +22,7 @@ fn main(rt: HostRuntime) -> io::Result<()> {
     let mut text = [0; 32769];
     let mut coeffs = [0.0; 16384];
     let mut out = [0; 302240];
-    let n = io::copy(&mut rt.stdin().take(32769), &mut Cursor::new(&mut text[..]))?;
-    let n = text.len().min(n as usize);
+    let copied = io::copy(&mut rt.stdin().take(32769), &mut Cursor::new(&mut text[..]))?;
+    let n = text.len().min(copied as usize);
     print(&rt, &text[..n], &mut coeffs, &mut out)
 }

@@ -13,7 +13,6 @@ use sheet_decimals::{LIMIT, digit_from};
 // N2: how far a reading is.
 pub const FRESH: u8 = 0;
 
-// (It stays apart from the 1 that stands for the mode Clamp in crates/tezvorup_records: stages and modes are numbered each for itself.)
 pub const MINUS: u8 = 1;
 
 pub const ZERO: u8 = 2;
@@ -78,7 +77,7 @@ fn belongs(stage: u8, b: u8) -> bool
 }
 
 // N1, N2: the next byte. No digit follows a 0, and a minus or a place without a first digit is at fault. (The two calls of `left` stay in
-// their arms: they end in two stages, and one call behind the match would need a name for the stage in each of its arms.)
+// their arms, each a line of the rule: one call for both would ask for the stage a second time.)
 #[tactic(auto, unfolding(rules::specs::SheetNumbers::taken))]
 pub fn taken(reading: NumberReading, b: u8) -> NumberReading
     requires { reading.size ≤ 2 ^ 40 }

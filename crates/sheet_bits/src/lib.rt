@@ -1,7 +1,8 @@
 // The pieces of the program's output that are written as they are, onto a page: fixed bytes, and bits in hex.
 //
-// Printing stays by hand, here and in the crates above: it goes into a lent buffer that has room and cannot fail, while `write!` hands back
-// a `Result` of which no clause of std says that it is `Ok`, so that each caller would have an error to answer that never comes.
+// Bytes are put onto a page by hand, here and in the crates above, and so it stays: a lent buffer has room for them and nothing fails, while
+// `write!` hands back a `Result` of which no clause of std says that it is `Ok`, so that each caller would have an error to answer that
+// never comes.
 #![tactic(auto)]
 
 ghost use Rattle.std.specs.Prelude.{◌≡◌, ◌<◌, length};
@@ -51,7 +52,8 @@ fn hex_digit(digit: u64) -> u8
 }
 
 // J11: 64 bits as 16 digits, the highest first. (It stays a routine that writes into its part of the page: digits that were handed back in
-// an array, to be put like other bytes, made the output of the longest table take 1.2 times as long.)
+// an array, to be put like other bytes, made the output of the longest table take 1.2 times as long. It stays beside the kit's crate hex, whose
+// `encode_to_slice` hands back a `Result` and takes the bytes of a number: a lemma would have to carry what it says to `hex` of the rules.)
 fn write_hex(places: &mut [u8], bits: u64)
     requires { length places.old ≡ 16 }
     ensures { places.new ≡ hex bits }

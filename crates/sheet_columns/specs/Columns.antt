@@ -5,7 +5,7 @@ use Rattle.std.specs.Float.Ieee.{of_int}
 use Rattle.law_lists.specs.Lists.{joined, listed}
 use Rattle.sheet_record.specs.Reached.{number_in}
 
--- number k of list a
+-- number k of list a, as a float
 abbrev pub number_at : ℕ → List ℤ → ℕ → ℕ → Float
 number_at stride buffer k a = of_int binary64 (number_in stride buffer k a)
 

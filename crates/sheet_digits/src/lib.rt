@@ -7,7 +7,8 @@ ghost use Rattle.sheet_bits.specs.Page.{HasRoom, Wrote};
 
 use sheet_bits::Page;
 
-// J10, J11, J12: a number in decimal. (Printing stays by hand, as crates/sheet_bits says.)
+// J10, J11, J12: a number in decimal, whose digits are itoa's. (That they go onto a page, and not by `write!`, stays: crates/sheet_bits
+// says why.)
 #[tactic(auto, using(crate::proofs::Decimal::natural_is))]
 fn put_decimal(page: &mut Page, n: usize)
     requires { HasRoom page.old (natural n) }

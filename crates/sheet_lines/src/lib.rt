@@ -2,7 +2,7 @@
 // That a buffer of 302,240 bytes is long enough for every output is shown in proofs/Fits.antt.
 //
 // Printing stays by hand, as crates/sheet_bits says. Page and coefficients stay two parameters: the page is written and goes on to the next
-// routine as it is, of the coefficients that are read each routine hands on another part.
+// routine as it is, and of the coefficients, which are read, each routine hands on another part.
 #![tactic(auto)]
 
 ghost use Rattle.std.specs.Prelude.{◌≡◌, ◌++◌, ◌≤◌, length, drop};

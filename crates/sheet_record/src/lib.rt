@@ -1,5 +1,5 @@
-// What a reader of job sheets hands to the build: numbers here, and lists in buffers beside them. What it says of a sheet stands in
-// specs/. This crate has no code.
+// What was read of a job sheet, as the reader hands it to the build: numbers, and lists in buffers that are lent. What they say of a sheet
+// stands in specs/. This crate has no code.
 #![tactic(auto)]
 
 ghost use Rattle.sheet_record.specs.Reached.{Reached};
