@@ -2,12 +2,12 @@
 // how many axes there are is known only at the end.
 #![tactic(auto)]
 
-ghost use Rattle.std.specs.Prelude.{◌≡◌, ◌≤◌, length};
+ghost use Rattle.std.specs.Prelude.{◌≡◌};
 ghost use Rattle.sheet_axes.specs.Says.{AxesSay};
 
 use rules::SheetError;
 use sheet_axis::axis;
-use sheet_reading::invalid_sheet;
+use sheet_reading::{Cursor, invalid_sheet};
 use sheet_sizes::{AxesSizes, TOO_MANY_NUMBERS, TOO_MANY_POINTS, with_axis};
 
 // How many axes there are and what was counted on them (crates/sheet_sizes).
@@ -17,39 +17,41 @@ pub struct AxesRead {
     pub sizes: AxesSizes,
 }
 
-// J20: "1 to 8 axes"
+// J20: "1 to 8 axes". (It stays apart from the 8 axes that a build takes: to have that constant, the reader of sheets would lean on
+// crates/questions for it alone.)
 const MOST_AXES: usize = 8;
 
-// J1, J20: the axes, 8 at the most, to the end of the text. (Each is lent its part of each of the three buffers: iterators over their
-// parts would have to be zipped, and do not say how long a buffer is.)
+// What so many axes take of points, and of a state's numbers.
+pub const POINTS_ROOM: usize = MOST_AXES * TOO_MANY_POINTS;
+
+pub const STATE_ROOM: usize = MOST_AXES * TOO_MANY_NUMBERS;
+
+// J1, J20: the axes, 8 at the most, to the end of the text. (The loop by number stays: each axis is lent its part of each of the three
+// buffers, and iterators over the parts would have to be zipped twice, and do not say how long a part is. The buffers stay three
+// parameters, as crates/sheet_axis says.)
 pub fn read_axes(
-    text: &[u8],
-    from: usize,
-    points: &mut [i64],
-    start: &mut [i64],
-    end: &mut [i64],
+    cursor: &mut Cursor,
+    points: &mut [i64; POINTS_ROOM],
+    start: &mut [i64; STATE_ROOM],
+    end: &mut [i64; STATE_ROOM],
 ) -> Result<AxesRead, SheetError>
-    requires { (from ≤ length text.now) × (length points.old ≡ 2064) × (length start.old ≡ 32) × (length end.old ≡ 32) }
-    ensures { AxesSay text.now from result points.new start.new end.new }
+    ensures { AxesSay cursor.old.text.now cursor.old.at result points.new start.new end.new }
 {
-    let mut place = from;
     let mut sofar = None;
     for k in 0..MOST_AXES {
         let a = k * TOO_MANY_POINTS;
         let b = k * TOO_MANY_NUMBERS;
         let read = axis(
-            text,
-            place,
+            cursor,
             &mut points[a..a + TOO_MANY_POINTS],
             &mut start[b..b + TOO_MANY_NUMBERS],
             &mut end[b..b + TOO_MANY_NUMBERS],
         )?;
-        let sizes = with_axis(sofar, read.value);
-        place = read.next;
-        if text.len() <= place {
+        let sizes = with_axis(sofar, read);
+        if cursor.at == cursor.text.len() {
             return Ok(AxesRead { axes: k + 1, sizes });
         }
         sofar = Some(sizes);
     }
-    Err(invalid_sheet(place))
+    Err(invalid_sheet(cursor.at))
 }

@@ -45,9 +45,10 @@ module _ {A : Type 0} (w : List ℕ) (P : ℕ → List ℕ → reading.Read A) (
   unfolding reading.lead reading.then
   lead_stops mid u e r = record { says = λ n l. rw (u.says n l) (r.says n l); inside = r.inside }
 
-  pub lead_fails : (e : SheetError) → Stops (word_at w) text from e → Stops (reading.lead w P) text from e
+  -- the fixed bytes do not stand there
+  pub lead_fails : (e : SheetError) → stop_at text e ≡ reading.word w (drop from text) → e.at ≤ length text → Stops (reading.lead w P) text from e
   unfolding reading.lead reading.then
-  lead_fails e u = record { says = λ n l. rw (u.says n l); inside = u.inside }
+  lead_fails e says inside = record { says = λ n l. rw (← says); inside = inside }
 
 module _ {A B C : Type 0} (make : A → B → C) (P : ℕ → List ℕ → reading.Read A) (Q : ℕ → List ℕ → reading.Read B) (text : List ℕ) (from : ℕ) where
   pub pair_fails : (e : SheetError) → Stops P text from e → Stops (reading.pair make P Q) text from e

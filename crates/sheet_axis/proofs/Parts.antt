@@ -12,7 +12,6 @@ use Rattle.sheet_laws.proofs.Fuel.{fuel}
 use Rattle.sheet_laws.proofs.Limits.{list_spelled}
 use Rattle.std.proofs.Common.{Result, Ok, Err}
 use Rattle.rules.specs.declared.SheetError.{SheetError}
-use Rattle.sheet_reading.specs.declared.Read.{Read}
 use Rattle.sheet_reading.specs.declared.Count.{Count}
 use Rattle.sheet_items.specs.Says.{ListStops, ListFilled}
 use Rattle.sheet_items.proofs.Sizes.{list_size}
@@ -39,14 +38,15 @@ module _ (text : List ℕ) (from : ℕ) (out : List ℤ) where
 
 -- fixed bytes, and the list after them
 module _ (text w : List ℕ) (from : ℕ) (out : List ℤ) (h : from ≤ length text) (mid : ℕ) (u : Reads (word_at w) text from tt mid) where
-  pub led_says : (r : Result (Read Count) SheetError) (after : List ℤ) → ListFilled text mid 0 out 0 r after → ListSays (led_list w) w [] text from out r after
-  led_says (Ok r) after l =
+  pub led_says : (next : ℕ) (r : Result Count SheetError) (after : List ℤ) → ListFilled text mid 0 out 0 next r after
+      → ListSays (led_list w) w [] text from out next r after
+  led_says next (Ok count) after l =
       let m = word_far text w from mid u h in
-      let s = list_spelled 0 (drop mid text) l.items (drop r.next text) l.reads in
-      let f = far text (spell_items l.items) mid r.next s.0 u.inside l.inside in
+      let s = list_spelled 0 (drop mid text) l.items (drop next text) l.reads in
+      let f = far text (spell_items l.items) mid next s.0 u.inside l.inside in
       record {
         items = l.items;
-        reads = lead_reads w _ text from mid u l.items r.next (list_reads text mid out l.items r.next l.reads l.inside);
+        reads = lead_reads w _ text from mid u l.items next (list_reads text mid out l.items next l.reads l.inside);
         within = record {
           valid = s.1;
           counts = l.ends ∙ omega (arith, list_size l.items);
@@ -55,7 +55,7 @@ module _ (text w : List ℕ) (from : ℕ) (out : List ℤ) (h : from ≤ length 
         };
         ends = omega (arith, f, m);
       }
-  led_says (Err e) after l = lead_stops w _ text from mid u e (list_stops text mid out e l)
+  led_says next (Err e) after l = lead_stops w _ text from mid u e (list_stops text mid out e l)
 
 -- ---- the end list and what closes the axis
 

@@ -6,7 +6,6 @@ use Rattle.rules.specs.SheetReading as reading
 use Rattle.rules.specs.SheetFaults.{size}
 use Rattle.rules.specs.SheetAnswers.{numbers}
 use Rattle.sheet_puts.specs.Put.{put}
-use Rattle.sheet_reading.specs.declared.Read.{Read}
 use Rattle.sheet_reading.specs.declared.Count.{Count}
 use Rattle.sheet_reading.specs.Says.{stop_at}
 use Rattle.sheet_items.specs.Says.{over_at}
@@ -44,9 +43,9 @@ pub record ListRead (P : ℕ → List ℕ → reading.Read Items) (w behind : Li
   pub within : ListIn (from + length w) out items count after
   pub ends : next ≡ from + length w + length (spell_items items) + length behind
 
-abbrev pub ListSays : (ℕ → List ℕ → reading.Read Items) → List ℕ → List ℕ → List ℕ → ℕ → List ℤ → Result (Read Count) SheetError → List ℤ → Type 0
-ListSays P w behind text from out (Ok r) after = ListRead P w behind text from out r.value r.next after
-ListSays P w behind text from out (Err e) after = Stops P text from e
+abbrev pub ListSays : (ℕ → List ℕ → reading.Read Items) → List ℕ → List ℕ → List ℕ → ℕ → List ℤ → ℕ → Result Count SheetError → List ℤ → Type 0
+ListSays P w behind text from out next (Ok count) after = ListRead P w behind text from out count next after
+ListSays P w behind text from out next (Err e) after = Stops P text from e
 
 -- ---- the states of an axis, and an axis
 
@@ -58,9 +57,9 @@ pub record StatesTo (text : List ℕ) (from : ℕ) (start end : List ℤ) (z : S
   pub start_in : ListIn (from + length (bytes " (start ")) start starts z.start startAfter
   pub end_in : ListIn (from + length (bytes " (start ") + length (spell_items starts) + length (bytes " (end ")) end ends z.end end_after
 
-abbrev pub StatesSay : List ℕ → ℕ → List ℤ → List ℤ → Result (Read StateSizes) SheetError → List ℤ → List ℤ → Type 0
-StatesSay text from start end (Ok r) startAfter end_after = StatesTo text from start end r.value r.next startAfter end_after
-StatesSay text from start end (Err e) startAfter end_after = Stops (reading.read_states within below4) text from e
+abbrev pub StatesSay : List ℕ → ℕ → List ℤ → List ℤ → ℕ → Result StateSizes SheetError → List ℤ → List ℤ → Type 0
+StatesSay text from start end next (Ok z) startAfter end_after = StatesTo text from start end z next startAfter end_after
+StatesSay text from start end next (Err e) startAfter end_after = Stops (reading.read_states within below4) text from e
 
 pub record AxisTo (text : List ℕ) (from : ℕ) (points start end : List ℤ) (z : AxisSizes) (next : ℕ) (pointsAfter startAfter end_after : List ℤ)
     : Type 0 where
@@ -74,7 +73,7 @@ pub record AxisTo (text : List ℕ) (from : ℕ) (points start end : List ℤ) (
   pub start_in : ListIn (z.close + 1 + length (bytes " (start ")) start starts z.start startAfter
   pub end_in : ListIn (z.close + 1 + length (bytes " (start ") + length (spell_items starts) + length (bytes " (end ")) end ends z.end end_after
 
-abbrev pub AxisSays : List ℕ → ℕ → List ℤ → List ℤ → List ℤ → Result (Read AxisSizes) SheetError → List ℤ → List ℤ → List ℤ → Type 0
-AxisSays text from points start end (Ok r) pointsAfter startAfter end_after =
-    AxisTo text from points start end r.value r.next pointsAfter startAfter end_after
-AxisSays text from points start end (Err e) pointsAfter startAfter end_after = Stops (reading.read_axis within below4) text from e
+abbrev pub AxisSays : List ℕ → ℕ → List ℤ → List ℤ → List ℤ → ℕ → Result AxisSizes SheetError → List ℤ → List ℤ → List ℤ → Type 0
+AxisSays text from points start end next (Ok z) pointsAfter startAfter end_after =
+    AxisTo text from points start end z next pointsAfter startAfter end_after
+AxisSays text from points start end next (Err e) pointsAfter startAfter end_after = Stops (reading.read_axis within below4) text from e

@@ -1,15 +1,18 @@
 // An axis of a job sheet: three lists with fixed bytes between them, each written into a buffer that is one longer than it may be.
-// What was counted, and where, is handed on (crates/sheet_sizes).
+// What was counted, and where, is handed on (crates/sheet_sizes). (The buffers stay parameters of their own, here, in
+// crates/sheet_axes and in crates/sheet_reader: a struct of the three would be made anew for each axis, from its parts of them, and be
+// taken apart at once, and each contract would say in addition that it holds the buffers that were lent. That a buffer has room for at
+// most 258 numbers stays a clause, since buffers of 258 and of 4 are lent to the same routines.)
 #![tactic(auto)]
 
-ghost use Rattle.std.specs.Prelude.{◌≡◌, ◌≤◌, ◌<◌, length};
+ghost use Rattle.std.specs.Prelude.{◌≡◌, ◌≤◌, length};
 ghost use Rattle.rules.specs.Sheets.{bytes, within, below4};
 ghost use Rattle.rules.specs.SheetReading.{read_end};
 ghost use Rattle.sheet_axis.specs.Says.{led_list, ListSays, StatesSay, AxisSays};
 
 use rules::SheetError;
 use sheet_items::list;
-use sheet_reading::{Count, Read};
+use sheet_reading::{Count, Cursor};
 use sheet_sizes::AxisSizes;
 use sheet_words::word;
 
@@ -20,70 +23,63 @@ pub struct StateSizes {
     pub end: Count,
 }
 
-// Fixed bytes, and then a list.
-fn led(text: &[u8], from: usize, w: &[u8], out: &mut [i64]) -> Result<Read<Count>, SheetError>
-    requires { (from ≤ length text.now) × (length out.old ≤ 258) }
-    ensures { ListSays (led_list w.now) w.now (bytes "") text.now from out.old result out.new }
+// Fixed bytes, and then a list. (Cursor and bytes stay two parameters, as crates/sheet_words says.)
+fn led(cursor: &mut Cursor, w: &[u8], out: &mut [i64]) -> Result<Count, SheetError>
+    requires { length out.old ≤ 258 }
+    ensures same { cursor.new.text.now ≡ cursor.old.text.now }
+    ensures says { ListSays (led_list w.now) w.now (bytes "")
+        cursor.old.text.now cursor.old.at out.old cursor.new.at result out.new }
 {
-    let next = word(text, from, w)?;
-    list(text, next, 0, out, 0)
+    word(cursor, w)?;
+    list(cursor, 0, out, 0)
 }
 
 // J1, J2: the end list, and what closes the axis.
-fn ending(text: &[u8], from: usize, out: &mut [i64]) -> Result<Read<Count>, SheetError>
-    requires { (from ≤ length text.now) × (length out.old ≤ 258) }
-    ensures { ListSays (read_end within below4) (bytes " (end ") (bytes ")\n") text.now from out.old result out.new }
+fn ending(cursor: &mut Cursor, out: &mut [i64]) -> Result<Count, SheetError>
+    requires { length out.old ≤ 258 }
+    ensures same { cursor.new.text.now ≡ cursor.old.text.now }
+    ensures says { ListSays (read_end within below4) (bytes " (end ") (bytes ")\n")
+        cursor.old.text.now cursor.old.at out.old cursor.new.at result out.new }
 {
-    let last = led(text, from, b" (end ", out)?;
-    let next = word(text, last.next, b")\n")?;
-    Ok(Read {
-        value: last.value,
-        next,
-    })
+    let last = led(cursor, b" (end ", out)?;
+    word(cursor, b")\n")?;
+    Ok(last)
 }
 
 // J8: both states.
-fn states(
-    text: &[u8],
-    from: usize,
-    start: &mut [i64],
-    end: &mut [i64],
-) -> Result<Read<StateSizes>, SheetError>
-    requires { (from ≤ length text.now) × (length start.old ≤ 258) × (length end.old ≤ 258) }
-    ensures { StatesSay text.now from start.old end.old result start.new end.new }
+fn states(cursor: &mut Cursor, start: &mut [i64], end: &mut [i64]) -> Result<StateSizes, SheetError>
+    requires { (length start.old ≤ 258) × (length end.old ≤ 258) }
+    ensures same { cursor.new.text.now ≡ cursor.old.text.now }
+    ensures says { StatesSay cursor.old.text.now cursor.old.at start.old end.old
+        cursor.new.at result start.new end.new }
 {
-    let first = led(text, from, b" (start ", start)?;
-    let last = ending(text, first.next, end)?;
-    Ok(Read {
-        value: StateSizes {
-            start: first.value,
-            end: last.value,
-        },
-        next: last.next,
+    let first = led(cursor, b" (start ", start)?;
+    let last = ending(cursor, end)?;
+    Ok(StateSizes {
+        start: first,
+        end: last,
     })
 }
 
 // J1, J8: an axis.
 pub fn axis(
-    text: &[u8],
-    from: usize,
+    cursor: &mut Cursor,
     points: &mut [i64],
     start: &mut [i64],
     end: &mut [i64],
-) -> Result<Read<AxisSizes>, SheetError>
-    requires { (from ≤ length text.now) × (length points.old ≤ 258) × (length start.old ≤ 258) × (length end.old ≤ 258) }
-    ensures { AxisSays text.now from points.old start.old end.old result
-        points.new start.new end.new }
+) -> Result<AxisSizes, SheetError>
+    requires { (length points.old ≤ 258) × (length start.old ≤ 258) × (length end.old ≤ 258) }
+    ensures same { cursor.new.text.now ≡ cursor.old.text.now }
+    ensures says { AxisSays cursor.old.text.now cursor.old.at points.old start.old end.old
+        cursor.new.at result points.new start.new end.new }
 {
-    let first = led(text, from, b"(axis (points ", points)?;
-    let both = states(text, first.next, start, end)?;
-    Ok(Read {
-        value: AxisSizes {
-            points: first.value,
-            close: first.next - 1,
-            start: both.value.start,
-            end: both.value.end,
-        },
-        next: both.next,
+    let first = led(cursor, b"(axis (points ", points)?;
+    let close = cursor.at - 1;
+    let both = states(cursor, start, end)?;
+    Ok(AxisSizes {
+        points: first,
+        close,
+        start: both.start,
+        end: both.end,
     })
 }

@@ -3,8 +3,19 @@ use Prim.{tt}
 use mathlib.Core.Path.{◌≡◌}
 use mathlib.Core.List.{List}
 use Prim.Native.Nat.{ℕ}
+use lib.ListN.{drop}
+use Rattle.std.proofs.Common.{Err}
 use Rattle.rules.specs.Sheets.{bytes}
 use Rattle.rules.specs.SheetReading as reading
+use Rattle.sheet_decimals.specs.declared.DecimalError.{DecimalError}
+use Rattle.sheet_decimals.specs.declared.DecimalError.TheVariants.{Missing, Over}
+use Rattle.sheet_numbers.specs.Says.{PositiveSays}
+
+-- no digit and a digit past 64 are refused alike
+pub no_count : (s : List ℕ) (from next : ℕ) (e : DecimalError) → PositiveSays s from 64 next (Err e) → reading.stop 600 (drop next s) ≡ reading.count (drop from s)
+unfolding PositiveSays
+no_count s from next Missing h = h (λ r. reading.stop 600 r)
+no_count s from next Over h = h (λ r. reading.stop 600 r)
 
 module _ (t : List ℕ) where
   pub head_stop : (k : ℕ) (r : List ℕ) → reading.word (bytes "again ") t ≡ reading.stop k r → reading.head t ≡ reading.stop k r

@@ -1,13 +1,24 @@
 -- One step of the judge's reading of digits, at a place of the text. Assumes nothing.
-use mathlib.Core.Path.{◌≡◌}
+use mathlib.Core.Path.{◌≡◌, sym, ◌∙◌}
 use mathlib.Core.Bool.{true, false}
 use mathlib.Core.List.{List}
 use Prim.Native.Nat.{ℕ, ◌+◌, ◌-◌, ◌*◌, ◌<◌, ◌≤◌}
-use lib.ListN.{length, get_or, drop, drop_of_length-le}
+use native.Mathlib.Omega.{arith}
+use lib.ListN.{length, get_or, take, drop, length-take, length-drop, drop_of_length-le}
+use lib.Seq.{get_or-take, get_or-drop}
 use borrow.Author.Tests.{le-leb, lt-leb}
 use Rattle.rules.specs.SheetReading as reading
 use Rattle.sheet_laws.proofs.Texts.{drop_here}
 use Rattle.sheet_decimals.specs.Says.{up_to}
+
+-- a byte of what is left of a text from a place on, which stands at another place of the text
+module _ (s : List ℕ) (from i at : ℕ) (here : at ≡ from + i) (h : i < length (take (length s - from) (drop from s))) where
+  pub left_in : at < length s
+  left_in = omega (arith, here, h, length-take (length s - from) (drop from s), length-drop from s)
+
+  pub left_is : get_or s at 0 ≡ get_or (take (length s - from) (drop from s)) i 0
+  left_is =
+      rw here (sym (get_or-take (length s - from) (drop from s) i 0 (omega (arith, left_in)) ∙ get_or-drop from s i 0))
 
 -- `over`: the judge's answer where a digit passes the limit
 module _ (limit : ℕ) (over : List ℕ → reading.Read ℕ) (s : List ℕ) (i : ℕ) where

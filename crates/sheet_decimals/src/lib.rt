@@ -2,16 +2,17 @@
 // reads them at the same place.
 #![tactic(auto)]
 
-ghost use Rattle.std.specs.Prelude.{◌≡◌, true, ◌^◌, ◌≤◌, length};
-ghost use Rattle.sheet_decimals.specs.Says.{digit_from, DigitsSay, DecimalInside, DecimalSmall};
+ghost use Rattle.std.specs.Prelude.{◌≡◌, true, ◌^◌, ◌≤◌};
+ghost use Rattle.sheet_decimals.specs.Says.{digit_from, DigitsSay, DecimalSmall};
 
-use sheet_reading::Read;
+use sheet_reading::Cursor;
 
-// Why there is no number: the place has no first digit, or a digit passes the limit.
+// Why there is no number at the cursor: there is no first digit, or the digit there passes the limit. (It stays an enum of its own:
+// only the caller knows with which number, and at which place, a digit past the limit is refused.)
 #[derive(Clone, Copy)]
 pub enum DecimalError {
-    Missing { at: usize },
-    Over { at: usize },
+    Missing,
+    Over,
 }
 
 // J22: 2^40.
@@ -25,25 +26,28 @@ pub fn digit_from(least: u8, b: u8) -> bool
     least <= b && b <= b'9'
 }
 
-// The digits after some that are worth n. It stops at the digit that passes the limit, so nothing overflows.
-pub fn digits(text: &[u8], from: usize, n: u64, limit: u64) -> Result<Read<u64>, DecimalError>
-    requires { (from ≤ length text.now) × (n ≤ limit) × (limit ≤ 2 ^ 40) }
-    ensures says { DigitsSay text.now from n limit result }
-    ensures inside { DecimalInside from (length text.now) result }
+// The digits after some that are worth n. It stops at the digit that passes the limit, so nothing overflows. (The loop stays: a search
+// for the first byte that is no digit would need a second loop for the worth, and that loop alone finds the digit past the limit. The
+// limit's own limit stays a clause of this function and of `positive` in crates/sheet_numbers: a type for it would be made of the two
+// limits, 64 and 2^40, and say no more.)
+pub fn digits(cursor: &mut Cursor, n: u64, limit: u64) -> Result<u64, DecimalError>
+    requires { (n ≤ limit) × (limit ≤ 2 ^ 40) }
+    ensures same { cursor.new.text.now ≡ cursor.old.text.now }
+    ensures says { DigitsSay cursor.old.text.now cursor.old.at n limit cursor.new.at result }
+    ensures forward { cursor.old.at ≤ cursor.new.at }
     ensures small { DecimalSmall n limit result }
 {
     let mut value = n;
-    for next in from..text.len() {
-        let b = text[next];
+    for &b in &cursor.text[cursor.at..] {
         if !digit_from(b'0', b) {
-            return Ok(Read { value, next });
+            return Ok(value);
         }
         let sum = value * 10 + u64::from(b - b'0');
         if limit < sum {
-            return Err(DecimalError::Over { at: next });
+            return Err(DecimalError::Over);
         }
         value = sum;
+        cursor.at += 1;
     }
-    let next = text.len();
-    Ok(Read { value, next })
+    Ok(value)
 }

@@ -4,7 +4,6 @@ use Rattle.rules.specs.declared.SheetError.{SheetError}
 use Rattle.rules.specs.Sheets.{heading, range, signed, spell_heading, within, below4}
 use Rattle.rules.specs.SheetReading as reading
 use Rattle.sheet_record.specs.Held.{Near}
-use Rattle.sheet_reading.specs.declared.Read.{Read}
 use Rattle.sheet_axis.specs.Says.{Reads, Stops}
 use Rattle.sheet_heading.specs.declared.HeadingNumbers.{HeadingNumbers}
 
@@ -14,20 +13,20 @@ pub record NumberTo (P : ℕ → List ℕ → reading.Read ℤ) (w behind : List
   pub near : Near z
   pub ends : next ≡ from + length w + length (signed z) + length behind
 
-abbrev pub NumberSays : (ℕ → List ℕ → reading.Read ℤ) → List ℕ → List ℕ → List ℕ → ℕ → Result (Read ℤ) SheetError → Type 0
-NumberSays P w behind text from (Ok r) = NumberTo P w behind text from r.value r.next
-NumberSays P w behind text from (Err e) = Stops P text from e
+abbrev pub NumberSays : (ℕ → List ℕ → reading.Read ℤ) → List ℕ → List ℕ → List ℕ → ℕ → ℕ → Result ℤ SheetError → Type 0
+NumberSays P w behind text from next (Ok z) = NumberTo P w behind text from z next
+NumberSays P w behind text from next (Err e) = Stops P text from e
 
 abbrev pub led_number : List ℕ → ℕ → List ℕ → reading.Read ℤ
 led_number w = reading.lead w (reading.read_number within below4)
 
-pub record HeadingTo (text : List ℕ) (h : HeadingNumbers) (next : ℕ) : Type 0 where
-  pub reads : Reads (reading.read_heading within below4) text 0 (heading h.order (range h.from h.to)) next
-  pub next_is : next ≡ length (spell_heading (heading h.order (range h.from h.to)))
+pub record HeadingTo (text : List ℕ) (from : ℕ) (h : HeadingNumbers) (next : ℕ) : Type 0 where
+  pub reads : Reads (reading.read_heading within below4) text from (heading h.order (range h.from h.to)) next
+  pub next_is : next ≡ from + length (spell_heading (heading h.order (range h.from h.to)))
   pub order_near : Near h.order
   pub from_near : Near h.from
   pub to_near : Near h.to
 
-abbrev pub HeadingSays : List ℕ → Result (Read HeadingNumbers) SheetError → Type 0
-HeadingSays text (Ok r) = HeadingTo text r.value r.next
-HeadingSays text (Err e) = Stops (reading.read_heading within below4) text 0 e
+abbrev pub HeadingSays : List ℕ → ℕ → ℕ → Result HeadingNumbers SheetError → Type 0
+HeadingSays text from next (Ok h) = HeadingTo text from h next
+HeadingSays text from next (Err e) = Stops (reading.read_heading within below4) text from e

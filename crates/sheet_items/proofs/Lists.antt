@@ -32,7 +32,6 @@ use Rattle.sheet_items.specs.Says.{
 }
 use Rattle.std.proofs.Common.{Ok, Err}
 use Rattle.rules.specs.declared.SheetError.{SheetError}
-use Rattle.sheet_items.specs.declared.Follows.TheVariants as follows
 use Rattle.sheet_items.proofs.Sizes.{item_size}
 
 pub then_then : {A B C : Type 0} (x : reading.Read A) (f : A → B) (g : B → C)
@@ -150,16 +149,16 @@ module _ (text : List ℕ) (from d : ℕ) (out : List ℤ) (at : ℕ) (start : a
       goes_on e = s.reads ∙ ap (λ y. reading.then y (λ items rest. reading.got (s.pre items) rest)) (list_on text place d h.it next h.reads ∙ e)
 
       -- what follows it is a fault
-      pub faulty : (e : SheetError) → Following text next (Err e) → ListStops text from d e
+      pub faulty : (after : ℕ) (e : SheetError) → Following text next after (Err e) → ListStops text from d e
       unfolding reading.then
-      faulty e f = record { reads = goes_on (f.1 _ h.it); inside = f.0 }
+      faulty after e f = record { reads = goes_on (f.1 _ h.it); inside = f.0 }
 
       module _ (over1 : ℕ) (o : over1 ≡ cond (ltb end (length held)) place over) where
         over_is : over1 ≡ cond (ltb end (length out)) place over
         over_is = o ∙ rw same_room
 
         -- it is the last
-        pub closed : (after : ℕ) → Following text next (Ok (follows.Close after)) → ListTo text from d out at last after over1 now
+        pub closed : (after : ℕ) → Following text next after (Ok false) → ListTo text from d out at last after over1 now
         unfolding reading.then numbers over_at
         closed after f = record {
           items = s.pre (one h.it);
@@ -172,7 +171,7 @@ module _ (text : List ℕ) (from d : ℕ) (out : List ℤ) (at : ℕ) (start : a
         }
 
         -- another follows
-        pub one_more : (after : ℕ) → Following text next (Ok (follows.Item after)) → Sofar text from d out at after last over1 now
+        pub one_more : (after : ℕ) → Following text next after (Ok true) → Sofar text from d out at after last over1 now
         unfolding numbers
         one_more after f = record {
           pre = λ items. s.pre (more h.it items);

@@ -1,18 +1,13 @@
 -- What the answers of the item routine and the list routine say of the judge's reading. Assumes nothing.
-use Rattle.std.specs.Prelude.{◌≡◌, true, false, List, [], ◌∷◌, ◌++◌, ℕ, suc, ◌+◌, ◌-◌, ◌≤◌, ◌<◌, min, ℤ, length, drop, ltb, Result, Ok, Err}
+use Rattle.std.specs.Prelude.{◌≡◌, Bool, true, false, List, [], ◌∷◌, ◌++◌, ℕ, suc, ◌+◌, ◌-◌, ◌≤◌, ◌<◌, min, ℤ, length, drop, ltb, Result, Ok, Err}
 use Rattle.rules.specs.declared.SheetError.{SheetError}
-use Rattle.rules.specs.Sheets.{Item, Items, whole, again, one, more, bytes, spell_item, within, below4}
+use Rattle.rules.specs.Sheets.{Item, Items, again, one, more, bytes, spell_item, within, below4}
 use Rattle.rules.specs.SheetReading as reading
 use Rattle.rules.specs.SheetFaults.{size_of}
 use Rattle.rules.specs.SheetAnswers.{numbers, numbers_of}
 use Rattle.sheet_puts.specs.Put.{put}
-use Rattle.sheet_reading.specs.declared.Read.{Read}
 use Rattle.sheet_reading.specs.declared.Count.{Count}
 use Rattle.sheet_reading.specs.Says.{stop_at}
-use Rattle.sheet_items.specs.declared.Opening.{Opening}
-use Rattle.sheet_items.specs.declared.Opening.TheVariants as opening
-use Rattle.sheet_items.specs.declared.Follows.{Follows}
-use Rattle.sheet_items.specs.declared.Follows.TheVariants as follows
 
 -- ---- the judge's reading, with the limits of a sheet and fuel that is enough
 
@@ -36,17 +31,13 @@ end_after out at xs = min (length out) (at + length xs)
 
 -- ---- an item
 
--- how an item begins at a place: with a number, with the heading of a form, or with a fault, whatever its inner list is read as
-abbrev pub Opened : List ℕ → ℕ → ℕ → Result Opening SheetError → Type 0
-Opened text from d (Ok opening.Number) =
-    (from < length text)
+-- the heading of a form at a place, read up to `next`, or a fault, whatever the form's list is read as
+abbrev pub Opened : List ℕ → ℕ → ℕ → ℕ → Result ℕ SheetError → Type 0
+Opened text from d next (Ok n) =
+    (from < next) × (next ≤ length text) × (1 ≤ n) × (n ≤ 64) × (d < 4)
     × ((inner : List ℕ → reading.Read Items)
-    → item_with inner d (drop from text) ≡ reading.then (reading.number within (drop from text)) (λ z rest. reading.got (whole z) rest))
-Opened text from d (Ok (opening.Again h)) =
-    (from < h.next) × (h.next ≤ length text) × (1 ≤ h.value) × (h.value ≤ 64) × (d < 4)
-    × ((inner : List ℕ → reading.Read Items)
-    → item_with inner d (drop from text) ≡ reading.then (inner (drop h.next text)) (λ items rest. reading.got (again h.value items) rest))
-Opened text from d (Err e) =
+    → item_with inner d (drop from text) ≡ reading.then (inner (drop next text)) (λ items rest. reading.got (again n items) rest))
+Opened text from d next (Err e) =
     (e.at ≤ length text) × ((inner : List ℕ → reading.Read Items) → item_with inner d (drop from text) ≡ stop_at text e)
 
 -- the judge reads an item from a place to another, and its numbers are written
@@ -63,16 +54,16 @@ pub record ItemStops (text : List ℕ) (from d : ℕ) (e : SheetError) : Type 0 
   pub reads : item_at d (drop from text) ≡ stop_at text e
   pub inside : e.at ≤ length text
 
-abbrev pub ItemFilled : List ℕ → ℕ → ℕ → List ℤ → ℕ → Result (Read ℕ) SheetError → List ℤ → Type 0
-ItemFilled text from d out at (Ok r) after = ItemTo text from d out at r.value r.next after
-ItemFilled text from d out at (Err e) after = ItemStops text from d e
+abbrev pub ItemFilled : List ℕ → ℕ → ℕ → List ℤ → ℕ → ℕ → Result ℕ SheetError → List ℤ → Type 0
+ItemFilled text from d out at next (Ok end) after = ItemTo text from d out at end next after
+ItemFilled text from d out at next (Err e) after = ItemStops text from d e
 
 -- the same of a number that stands there
-abbrev pub NumberFilled : List ℕ → ℕ → List ℤ → ℕ → Result (Read ℕ) SheetError → List ℤ → Type 0
-NumberFilled text from out at (Ok r) after =
-    (z : ℤ) × (reading.number within (drop from text) ≡ reading.got z (drop r.next text)) × (from < r.next) × (r.next ≤ length text)
-    × (r.value ≡ end_after out at (z ∷ [])) × (after ≡ put out at (z ∷ []))
-NumberFilled text from out at (Err e) after =
+abbrev pub NumberFilled : List ℕ → ℕ → List ℤ → ℕ → ℕ → Result ℕ SheetError → List ℤ → Type 0
+NumberFilled text from out at next (Ok end) after =
+    (z : ℤ) × (reading.number within (drop from text) ≡ reading.got z (drop next text)) × (from < next) × (next ≤ length text)
+    × (end ≡ end_after out at (z ∷ [])) × (after ≡ put out at (z ∷ []))
+NumberFilled text from out at next (Err e) after =
     (reading.number within (drop from text) ≡ stop_at text e) × (e.at ≤ length text)
 
 -- ---- a list
@@ -97,18 +88,18 @@ pub record ListStops (text : List ℕ) (from d : ℕ) (e : SheetError) : Type 0 
   pub reads : list_at d (drop from text) ≡ stop_at text e
   pub inside : e.at ≤ length text
 
-abbrev pub ListFilled : List ℕ → ℕ → ℕ → List ℤ → ℕ → Result (Read Count) SheetError → List ℤ → Type 0
-ListFilled text from d out at (Ok r) after = ListTo text from d out at r.value.numbers r.next r.value.over after
-ListFilled text from d out at (Err e) after = ListStops text from d e
+abbrev pub ListFilled : List ℕ → ℕ → ℕ → List ℤ → ℕ → ℕ → Result Count SheetError → List ℤ → Type 0
+ListFilled text from d out at next (Ok r) after = ListTo text from d out at r.numbers next r.over after
+ListFilled text from d out at next (Err e) after = ListStops text from d e
 
--- what follows an item that was read up to a place: another item, the closing bracket, or a fault
-abbrev pub Following : List ℕ → ℕ → Result Follows SheetError → Type 0
-Following text next (Ok (follows.Item place)) =
-    (place ≡ next + 1) × (place ≤ length text)
+-- what follows an item that was read up to a place, which is passed: another item, the closing bracket, or a fault
+abbrev pub Following : List ℕ → ℕ → ℕ → Result Bool SheetError → Type 0
+Following text from next (Ok true) =
+    (next ≡ from + 1) × (next ≤ length text)
     × ((others : List ℕ → reading.Read Items) (i : Item)
-    → after_with others i (drop next text) ≡ reading.then (others (drop place text)) (λ items rest. reading.got (more i items) rest))
-Following text next (Ok (follows.Close place)) =
-    (place ≡ next + 1) × (place ≤ length text)
-    × ((others : List ℕ → reading.Read Items) (i : Item) → after_with others i (drop next text) ≡ reading.got (one i) (drop place text))
-Following text next (Err e) =
-    (e.at ≤ length text) × ((others : List ℕ → reading.Read Items) (i : Item) → after_with others i (drop next text) ≡ stop_at text e)
+    → after_with others i (drop from text) ≡ reading.then (others (drop next text)) (λ items rest. reading.got (more i items) rest))
+Following text from next (Ok false) =
+    (next ≡ from + 1) × (next ≤ length text)
+    × ((others : List ℕ → reading.Read Items) (i : Item) → after_with others i (drop from text) ≡ reading.got (one i) (drop next text))
+Following text from next (Err e) =
+    (e.at ≤ length text) × ((others : List ℕ → reading.Read Items) (i : Item) → after_with others i (drop from text) ≡ stop_at text e)

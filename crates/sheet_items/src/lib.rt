@@ -1,90 +1,58 @@
 // Items and lists of a job sheet. An item is a number or an `again` form, and a form holds a list: so the item routine and the list
 // routine call each other, and the bytes that remain fall. The list routine loops over its items, so the calls are as deep as forms
-// stand inside one another, which is four at the most. The numbers go into a buffer, as many as it holds.
+// stand inside one another, which is four at the most. The numbers go into a buffer, as many as it holds. (Buffer and place stay two
+// parameters, `out` and `at`, and what is asked of them stays two clauses: a form's list is written from one place on and up to
+// another, so a struct of buffer and place would have a third place beside it, and each contract would say in addition that the struct
+// still holds the buffer that was lent. Cursor and depth stay two parameters: the cursor goes on, the depth is another in each form.)
 #![tactic(auto)]
 
-ghost use Rattle.std.specs.Prelude.{◌≡◌, ◌+◌, ◌≤◌, cond, length, ltb};
+ghost use Rattle.std.specs.Prelude.{◌≡◌, ◌≤◌, cond, length, ltb, slice_get, Some};
 ghost use Rattle.sheet_items.specs.Says.{Opened, NumberFilled, ItemFilled, ListFilled, Following};
 
 use rules::{PathError, SheetError};
-use sheet_reading::{Count, Read, invalid_sheet};
+use sheet_reading::{Count, Cursor, invalid_sheet};
 
-// How an item begins: with a number, or with the heading of a form: its count, and the place where its list starts.
-#[derive(Clone, Copy)]
-pub enum Opening {
-    Number,
-    Again(Read<usize>),
-}
-
-// What follows an item: another item at a place, or the end of the list and the place after it.
-#[derive(Clone, Copy)]
-pub enum Follows {
-    Item(usize),
-    Close(usize),
-}
-
-// J7: "at most 4 `again` forms inside one another"
+// J7: "at most 4 `again` forms inside one another". (It stays apart from the 4 of crates/sheet_sizes, which is a state's 4th number.)
 const MOST_DEEP: usize = 4;
 
-// J4, J7, J21: the bracket alone decides that an item is a form; inside four forms it is refused.
-fn open_item(text: &[u8], from: usize, depth: usize) -> Result<Opening, SheetError>
-    requires { from ≤ length text.now }
-    ensures { Opened text.now from depth result }
+// J4, J7, J21: the heading of a form, from its bracket up to its list: the count. Inside four forms it is refused.
+fn open_form(cursor: &mut Cursor, depth: usize) -> Result<usize, SheetError>
+    requires { slice_get cursor.old.text.now cursor.old.at ≡ Some 40 }
+    ensures same { cursor.new.text.now ≡ cursor.old.text.now }
+    ensures says { Opened cursor.old.text.now cursor.old.at depth cursor.new.at result }
 {
-    if from == text.len() {
-        return Err(invalid_sheet(from));
-    }
-    if text[from] != b'(' {
-        return Ok(Opening::Number);
-    }
     if MOST_DEEP <= depth {
         return Err(SheetError {
             cause: PathError::SheetTooDeep,
-            at: from,
+            at: cursor.at,
         });
     }
-    let heading = sheet_counts::head(text, from + 1)?;
-    Ok(Opening::Again(heading))
+    cursor.at += 1;
+    sheet_counts::head(cursor)
 }
 
-// A number as an item. (A buffer and the place up to which it is written stay two parameters, here and below: the list routine keeps
-// the place alone, and lends the buffer on.)
-fn number_item(
-    text: &[u8],
-    from: usize,
-    out: &mut [i64],
-    at: usize,
-) -> Result<Read<usize>, SheetError>
-    requires { (from ≤ length text.now) × (at ≤ length out.old) }
-    ensures { NumberFilled text.now from out.old at result out.new }
+// A number as an item.
+fn number_item(cursor: &mut Cursor, out: &mut [i64], at: usize) -> Result<usize, SheetError>
+    requires { at ≤ length out.old }
+    ensures same { cursor.new.text.now ≡ cursor.old.text.now }
+    ensures says { NumberFilled cursor.old.text.now cursor.old.at out.old at cursor.new.at result out.new }
 {
-    let z = sheet_numbers::number(text, from)?;
-    let end = sheet_puts::push(out, at, z.value);
-    Ok(Read {
-        value: end,
-        next: z.next,
-    })
+    let z = sheet_numbers::number(cursor)?;
+    Ok(sheet_puts::push(out, at, z))
 }
 
-// J2: "One space between items"
-const SPACE: u8 = b' ';
-
-// J2: what follows an item: one space and another item, or the bracket that closes the list.
-fn following(text: &[u8], next: usize) -> Result<Follows, SheetError>
-    requires { next ≤ length text.now }
-    ensures { Following text.now next result }
+// J2: what follows an item: one space and another item, which is told by `true`, or the bracket that closes the list.
+fn more(cursor: &mut Cursor) -> Result<bool, SheetError>
+    ensures same { cursor.new.text.now ≡ cursor.old.text.now }
+    ensures says { Following cursor.old.text.now cursor.old.at cursor.new.at result }
 {
-    if next == text.len() {
-        return Err(invalid_sheet(next));
+    if cursor.eat(b' ') {
+        return Ok(true);
     }
-    let b = text[next];
-    if b == b')' {
-        return Ok(Follows::Close(next + 1));
+    if cursor.eat(b')') {
+        return Ok(false);
     }
-    if b == SPACE {
-        return Ok(Follows::Item(next + 1));
-    }
-    Err(invalid_sheet(next))
+    Err(invalid_sheet(cursor.at))
 }
 
 // The later place where there is still room, else the one before.
@@ -95,61 +63,46 @@ fn later(end: usize, room: usize, place: usize, over: usize) -> usize
 }
 
 // F12, J4, J5: an item inside `depth` forms, and where its numbers end in the buffer; for a form the list routine is called, and what
-// it has written is written n times over.
+// it has written is written n times over. (A form moves a copy of the cursor, which is put back: see `list`.)
 #[cycle(item_list)]
-fn item(
-    text: &[u8],
-    from: usize,
-    depth: usize,
-    out: &mut [i64],
-    at: usize,
-) -> Result<Read<usize>, SheetError>
-    requires { (from ≤ length text.now) × (at ≤ length out.old) × (length out.old ≤ 258) }
-    ensures { ItemFilled text.now from depth out.old at result out.new }
+fn item(cursor: &mut Cursor, depth: usize, out: &mut [i64], at: usize) -> Result<usize, SheetError>
+    requires { (at ≤ length out.old) × (length out.old ≤ 258) }
+    ensures same { cursor.new.text.now ≡ cursor.old.text.now }
+    ensures says { ItemFilled cursor.old.text.now cursor.old.at depth out.old at cursor.new.at result out.new }
 {
-    match open_item(text, from, depth)? {
-        Opening::Number => number_item(text, from, out, at),
-        Opening::Again(heading) => {
-            let inner = list(text, heading.next, depth + 1, out, at)?;
-            let end = sheet_puts::repeat(out, at, inner.value.numbers, heading.value);
-            Ok(Read {
-                value: end,
-                next: inner.next,
-            })
-        }
+    if cursor.byte() != Some(b'(') {
+        return number_item(cursor, out, at);
     }
+    let mut inside = *cursor;
+    let times = open_form(&mut inside, depth)?;
+    let inner = list(&mut inside, depth + 1, out, at)?;
+    *cursor = inside;
+    Ok(sheet_puts::repeat(out, at, inner.numbers, times))
 }
 
-// F12, J6: a list inside `depth` forms, with its closing bracket: one item after the other, each read by the item routine.
+// F12, J6: a list inside `depth` forms, with its closing bracket: one item after the other, each read by the item routine. (The loop
+// stays: an iterator over the items would have to hold both the cursor and the buffer. It moves a copy of the cursor, which is put
+// back at the end: with the cursor itself, sheets took 1.1 to 1.3 of the time.)
 #[cycle(item_list)]
 pub fn list(
-    text: &[u8],
-    from: usize,
+    cursor: &mut Cursor,
     depth: usize,
     out: &mut [i64],
     at: usize,
-) -> Result<Read<Count>, SheetError>
-    requires { (from ≤ length text.now) × (at ≤ length out.old) × (length out.old ≤ 258) }
-    ensures { ListFilled text.now from depth out.old at result out.new }
+) -> Result<Count, SheetError>
+    requires { (at ≤ length out.old) × (length out.old ≤ 258) }
+    ensures same { cursor.new.text.now ≡ cursor.old.text.now }
+    ensures says { ListFilled cursor.old.text.now cursor.old.at depth out.old at cursor.new.at result out.new }
 {
-    let mut place = from;
-    let mut end = at;
-    let mut over = from;
+    let mut here = *cursor;
+    let mut numbers = at;
+    let mut over = here.at;
     loop {
-        over = later(end, out.len(), place, over);
-        let read = item(text, place, depth, out, end)?;
-        end = read.value;
-        match following(text, read.next)? {
-            Follows::Item(start) => {
-                place = start;
-            }
-            Follows::Close(next) => {
-                let numbers = end;
-                return Ok(Read {
-                    value: Count { numbers, over },
-                    next,
-                });
-            }
+        over = later(numbers, out.len(), here.at, over);
+        numbers = item(&mut here, depth, out, numbers)?;
+        if !more(&mut here)? {
+            *cursor = here;
+            return Ok(Count { numbers, over });
         }
     }
 }

@@ -2,43 +2,41 @@
 use mathlib.Core.Path.{◌≡◌, refl, sym, ap, ◌∙◌}
 use mathlib.Core.Bool.{true, false}
 use mathlib.Core.List.{List}
-use Prim.Native.Nat.{ℕ, zero, suc, ◌+◌, ◌-◌, ◌^◌, ◌<◌, ◌≤◌}
+use Prim.Native.Nat.{ℕ, zero, suc, ◌+◌, ◌-◌, ◌^◌, ◌≤◌}
 use native.Mathlib.Omega.{arith}
 use lib.IntN.{ℤ, pos, negsuc, neg_ℤ, ◌-ℤ◌, nat_abs, +ℤ_idl}
-use lib.ListN.{length, get_or, drop, drop_of_length-le}
+use lib.ListN.{drop}
 use mir.Facts.{to_z-of_z}
 use mir.Syntax.{w64}
 use mir.Val.{SFits, to_z, of_z}
-use borrow.Author.Tests.{eq-eqb, ne_eqb}
-use Rattle.std.proofs.Common.{Result, Ok, Err}
+use borrow.Author.Tests.{ne_eqb}
+use Rattle.std.proofs.Common.{None, Some, Result, Ok, Err}
+use Rattle.std.specs.List.{slice_get}
 use Rattle.rules.specs.Sheets.{within}
 use Rattle.rules.specs.declared.SheetError.{SheetError}
 use Rattle.rules.specs.SheetReading as reading
-use Rattle.sheet_laws.proofs.Texts.{drop_here}
-use Rattle.sheet_reading.specs.declared.Read.{Read}
 use Rattle.sheet_reading.specs.Says.{read_of, stop_at}
-use Rattle.sheet_decimals.specs.declared.DecimalError.{DecimalError}
-use Rattle.sheet_decimals.specs.declared.DecimalError.TheVariants.{Missing, Over}
-use Rattle.sheet_decimals.specs.Says.{decimal_of, up_to}
-use Rattle.sheet_numbers.specs.Says.{PositiveSays, plain_of}
+use Rattle.sheet_reading.proofs.Bytes.{left_none, left_byte}
+use Rattle.sheet_decimals.specs.Says.{up_to}
+use Rattle.sheet_numbers.specs.Says.{plain_at}
 
 -- ---- digits that do not lead with a 0
 
 -- `over`: the judge's answer where a digit passes the limit
 module _ (limit : ℕ) (over : List ℕ → reading.Read ℕ) (s : List ℕ) (i : ℕ) where
-  pub positive_end : length s ≤ i → reading.positive (up_to limit) over (drop i s) ≡ reading.stop 600 (drop i s)
+  pub positive_end : slice_get s i ≡ None → reading.positive (up_to limit) over (drop i s) ≡ reading.stop 600 (drop i s)
   unfolding reading.positive
-  positive_end h = rw (drop_of_length-le s h)
+  positive_end e = rw (left_none s i e)
 
-  module _ (h : i < length s) where
-    pub positive_other : reading.is_first (get_or s i 0) ≡ false → reading.positive (up_to limit) over (drop i s) ≡ reading.stop 600 (drop i s)
+  module _ (b : ℕ) (e : slice_get s i ≡ Some b) where
+    pub positive_other : reading.is_first b ≡ false → reading.positive (up_to limit) over (drop i s) ≡ reading.stop 600 (drop i s)
     unfolding reading.positive
-    positive_other e = rw (drop_here s i h, e, reading.positive)
+    positive_other f = rw (left_byte s i b e, f, reading.positive)
 
-    pub positive_on : reading.is_first (get_or s i 0) ≡ true
-        → reading.positive (up_to limit) over (drop i s) ≡ reading.digits (up_to limit) over (get_or s i 0 - 48) (drop (i + 1) s)
+    pub positive_on : reading.is_first b ≡ true
+        → reading.positive (up_to limit) over (drop i s) ≡ reading.digits (up_to limit) over (b - 48) (drop (i + 1) s)
     unfolding reading.positive
-    positive_on e = rw (drop_here s i h, e, reading.positive)
+    positive_on f = rw (left_byte s i b e, f, reading.positive)
 
 -- ---- a number up to 2^40 and its opposite, as an i64
 
@@ -61,64 +59,51 @@ negated_size (pos zero) = refl
 negated_size (pos (suc n)) = refl
 negated_size (negsuc n) = refl
 
--- ---- digits as a number that starts at i
+-- ---- digits as a number that starts at a place
 
-plain_then : (s : List ℕ) (i : ℕ) (f : ℤ → ℤ) (p : Result (Read ℕ) DecimalError)
-    → reading.then (decimal_of (λ r. reading.stop 4 (drop i s)) s p) (λ n rest. reading.got (f (pos n)) rest)
-    ≡ reading.then (read_of s (plain_of i p)) (λ z rest. reading.got (f z) rest)
-unfolding reading.then
-plain_then s i f (Ok r) = refl
-plain_then s i f (Err (Missing a)) = refl
-plain_then s i f (Err (Over a)) = refl
+pub plain_is : (s : List ℕ) (start from : ℕ) (x : reading.Read ℕ) → x ≡ reading.positive within (λ r. reading.stop 4 (drop start s)) (drop from s)
+    → reading.then x (λ n rest. reading.got (pos n) rest) ≡ plain_at s start from
+plain_is s start from x e = ap (λ y. reading.then y (λ n rest. reading.got (pos n) rest)) e
 
-plain_itself : (x : reading.Read ℤ) → reading.then x (λ z rest. reading.got z rest) ≡ x
-unfolding reading.then
-plain_itself (reading.got z rest) = refl
-plain_itself (reading.stop k rest) = refl
+-- ---- a number by its first byte
 
 module _ (s : List ℕ) (i : ℕ) where
-  pub number_end : length s ≤ i → reading.number within (drop i s) ≡ reading.stop 600 (drop i s)
+  pub number_end : slice_get s i ≡ None → reading.number within (drop i s) ≡ reading.stop 600 (drop i s)
   unfolding reading.number
-  number_end h = rw (drop_of_length-le s h)
+  number_end e = rw (left_none s i e)
 
-  module _ (h : i < length s) where
-    pub number_zero : get_or s i 0 ≡ 48 → reading.number within (drop i s) ≡ reading.got (pos 0) (drop (i + 1) s)
-    unfolding reading.number
-    number_zero e = rw (drop_here s i h, e)
+  pub number_zero : slice_get s i ≡ Some 48 → reading.number within (drop i s) ≡ reading.got (pos 0) (drop (i + 1) s)
+  unfolding reading.number
+  number_zero e = rw (left_byte s i 48 e)
 
-    minus_first : get_or s i 0 ≡ 45 → reading.number within (drop i s)
+  pub number_plain : (b : ℕ) → slice_get s i ≡ Some b → (b ≡ 45 → ⊥) → (b ≡ 48 → ⊥) → reading.number within (drop i s) ≡ plain_at s i i
+  unfolding reading.number
+  number_plain b e f g = rw (left_byte s i b e, ne_eqb _ _ f, ne_eqb _ _ g, reading.number)
+
+  minus_plain : (x : reading.Read ℕ) → reading.then x (λ n rest. reading.got (neg_ℤ (pos n)) rest)
+      ≡ reading.then (reading.then x (λ n rest. reading.got (pos n) rest)) (λ z rest. reading.got (neg_ℤ z) rest)
+  unfolding reading.then
+  minus_plain (reading.got n rest) = refl
+  minus_plain (reading.stop k rest) = refl
+
+  module _ (e : slice_get s i ≡ Some 45) where
+    minus_first : reading.number within (drop i s)
         ≡ reading.then (reading.positive within (λ r. reading.stop 4 (drop i s)) (drop (i + 1) s)) (λ n rest. reading.got (neg_ℤ (pos n)) rest)
     unfolding reading.number
-    minus_first e = rw (drop_here s i h, eq-eqb _ _ e, reading.number)
+    minus_first = rw (left_byte s i 45 e)
 
-    digit_first : (get_or s i 0 ≡ 45 → ⊥) → (get_or s i 0 ≡ 48 → ⊥) → reading.number within (drop i s)
-        ≡ reading.then (reading.positive within (λ r. reading.stop 4 (drop i s)) (drop i s)) (λ n rest. reading.got (pos n) rest)
-    unfolding reading.number
-    digit_first e f = rw (drop_here s i h, ne_eqb _ _ e, ne_eqb _ _ f, reading.number)
+    minus_then : (next : ℕ) (r : Result ℤ SheetError) → read_of s next r ≡ plain_at s i (i + 1)
+        → reading.then (read_of s next r) (λ z rest. reading.got (neg_ℤ z) rest) ≡ reading.number within (drop i s)
+    minus_then next r f =
+        ap (λ x. reading.then x (λ z rest. reading.got (neg_ℤ z) rest)) f
+        ∙ sym (minus_plain (reading.positive within (λ r. reading.stop 4 (drop i s)) (drop (i + 1) s)))
+        ∙ sym minus_first
 
-    module _ (p : Result (Read ℕ) DecimalError) where
-      pub number_plain : (get_or s i 0 ≡ 45 → ⊥) → (get_or s i 0 ≡ 48 → ⊥) → PositiveSays s i (2 ^ 40) p
-          → read_of s (plain_of i p) ≡ reading.number within (drop i s)
-      unfolding PositiveSays
-      number_plain a b q =
-          sym (plain_itself (read_of s (plain_of i p)))
-          ∙ sym (plain_then s i (λ z. z) p)
-          ∙ ap (λ x. reading.then x (λ n rest. reading.got (pos n) rest)) (q (λ r. reading.stop 4 (drop i s)))
-          ∙ sym (digit_first a b)
+    pub number_minus : (next : ℕ) (z : ℤ) → reading.got z (drop next s) ≡ plain_at s i (i + 1)
+        → reading.got (neg_ℤ z) (drop next s) ≡ reading.number within (drop i s)
+    unfolding reading.then
+    number_minus next z f = minus_then next (Ok z) f
 
-      module _ (b : get_or s i 0 ≡ 45) (q : PositiveSays s (i + 1) (2 ^ 40) p) where
-        minus_then : reading.then (read_of s (plain_of i p)) (λ z rest. reading.got (neg_ℤ z) rest) ≡ reading.number within (drop i s)
-        unfolding PositiveSays
-        minus_then =
-            sym (plain_then s i neg_ℤ p)
-            ∙ ap (λ x. reading.then x (λ n rest. reading.got (neg_ℤ (pos n)) rest)) (q (λ r. reading.stop 4 (drop i s)))
-            ∙ sym (minus_first b)
-
-        pub number_minus : (z : ℤ) (next : ℕ) → plain_of i p ≡ Ok (record { value = z; next = next })
-            → reading.got (neg_ℤ z) (drop next s) ≡ reading.number within (drop i s)
-        unfolding reading.then
-        number_minus z next e = ap (λ r. reading.then (read_of s r) (λ z rest. reading.got (neg_ℤ z) rest)) (sym e) ∙ minus_then
-
-        pub number_stop : (e : SheetError) → plain_of i p ≡ Err e → stop_at s e ≡ reading.number within (drop i s)
-        unfolding reading.then
-        number_stop e f = ap (λ r. reading.then (read_of s r) (λ z rest. reading.got (neg_ℤ z) rest)) (sym f) ∙ minus_then
+    pub number_stop : (e : SheetError) → stop_at s e ≡ plain_at s i (i + 1) → stop_at s e ≡ reading.number within (drop i s)
+    unfolding reading.then
+    number_stop e f = minus_then 0 (Err e) f

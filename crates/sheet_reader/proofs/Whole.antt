@@ -8,7 +8,7 @@ use lib.ListN.{length, take, drop, length-drop, length-take, drop_of_length-le}
 use borrow.Author.Tests.{le-leb, lt-leb}
 use Rattle.std.proofs.Common.{None, Some, Result, Ok, Err}
 use Rattle.rules.specs.declared.SheetError.{SheetError}
-use Rattle.rules.specs.Sheets.{heading, range, Sheet, sheet, within, below4}
+use Rattle.rules.specs.Sheets.{heading, range, spell_heading, Sheet, sheet, within, below4}
 use Rattle.rules.specs.SheetReading as reading
 use Rattle.rules.specs.SheetFaults.{Refusal, axes_sizes, first_count, sizes, refused, sized, longest, judge}
 use Rattle.sheet_record.specs.declared.SheetNumbers.{SheetNumbers}
@@ -39,7 +39,7 @@ pub stops_whole : (text : List ℕ) (e : SheetError) → Stops (reading.read_she
 unfolding reading.sheet_of
 stops_whole text e p = (p.says (suc (length text)) (omega arith), p.inside)
 
-module _ (text : List ℕ) (n : HeadingNumbers) (mid : ℕ) (h : HeadingTo text n mid) (r : AxesRead) (points start end : List ℤ)
+module _ (text : List ℕ) (n : HeadingNumbers) (mid : ℕ) (h : HeadingTo text 0 n mid) (r : AxesRead) (points start end : List ℤ)
     (t : AxesTo text mid r.axes r.sizes points start end) where
   abbrev read : Sheet
   read = sheet (heading n.order (range n.from n.to)) t.axes
@@ -52,7 +52,9 @@ module _ (text : List ℕ) (n : HeadingNumbers) (mid : ℕ) (h : HeadingTo text 
 
   sizes_are : sizes read ≡ axes_sizes (first_count t.axes) mid t.axes
   unfolding sizes
-  sizes_are = ap (λ p. axes_sizes (first_count t.axes) p t.axes) (sym h.next_is)
+  sizes_are =
+      let start : length (spell_heading (heading n.order (range n.from n.to))) ≡ mid = omega (arith, h.next_is) in
+      ap (λ p. axes_sizes (first_count t.axes) p t.axes) start
 
   pub sized_whole : (e : SheetError) → r.sizes.fault ≡ Some e → WholeSays text (Ok (Err e)) points start end
   sized_whole e o =

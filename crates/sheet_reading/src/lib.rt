@@ -1,18 +1,43 @@
-// What the routines of the reader of job sheets hand on: what was read and the place after it, or a refusal and its place. What an
-// answer says in the terms of the judge (crates/rules/specs/SheetReading.antt) stands in specs/.
+// What the routines of the reader of job sheets share: the text with the place up to which it was read, and a refusal with its place.
+// What an answer says in the terms of the judge (crates/rules/specs/SheetReading.antt) stands in specs/.
 #![tactic(auto)]
 
-ghost use Rattle.std.specs.Prelude.{◌≡◌};
-ghost use Rattle.sheet_reading.specs.Says.{invalid_at};
+ghost use Rattle.std.specs.Prelude.{◌≡◌, ◌≤◌, length, slice_get};
+ghost use Rattle.sheet_reading.specs.Says.{invalid_at, Passed};
 
 use rules::{PathError, SheetError};
 
-// What was read, and the place after it. (A routine takes the whole text and a place, and not the rest of the text, since a refusal
-// tells its place as counted from the text's first byte.)
+// A text, and the place up to which it was read. (The place stays a number beside the text, and the text is not cut down to what is
+// left: a refusal tells its place as counted from the text's first byte, so the text's length would have to stand beside the rest.)
 #[derive(Clone, Copy)]
-pub struct Read<T> {
-    pub value: T,
-    pub next: usize,
+pub struct Cursor<'a> {
+    pub text: &'a [u8],
+    pub at: usize,
+    pub ghost inside: { at ≤ length text.now },
+}
+
+impl Cursor<'_> {
+    // The byte that is read next, if the text is not at its end.
+    pub fn byte(&self) -> Option<u8>
+        ensures { result ≡ slice_get self.now.text.now self.now.at }
+    {
+        if self.at == self.text.len() {
+            return None;
+        }
+        Some(self.text[self.at])
+    }
+
+    // Passes a byte, if it stands there.
+    pub fn eat(&mut self, b: u8) -> bool
+        ensures same { self.new.text.now ≡ self.old.text.now }
+        ensures says { Passed self.old.text.now self.old.at b self.new.at result }
+    {
+        if self.byte() == Some(b) {
+            self.at += 1;
+            return true;
+        }
+        false
+    }
 }
 
 // A list that was read into a buffer: how many numbers the buffer holds with it, and the place of the item in which it was filled up, if

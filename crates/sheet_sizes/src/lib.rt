@@ -30,7 +30,7 @@ pub struct AxesSizes {
 // J23: "the 258th point". A buffer has room for so many of each axis, and is full where there are too many.
 pub const TOO_MANY_POINTS: usize = 258;
 
-// J23: a state's 4th number. The same.
+// J23: a state's 4th number. The same. (It stays apart from the 4 of crates/sheet_items, which is how deep forms may stand.)
 pub const TOO_MANY_NUMBERS: usize = 4;
 
 // J23: 2 for a list of so many numbers.

@@ -1,5 +1,5 @@
 -- One axis after the other: it stops, it is the last, or another follows. Assumes nothing.
-use Rattle.std.proofs.Common.{◌≤◌, ◌+◌, refl, arith, ◌∙◌}
+use Rattle.std.proofs.Common.{◌≤◌, ◌<◌, ◌+◌, length, refl, ap, arith, ◌∙◌}
 use Rattle.std.proofs.lemmas.Result.{err_from_is_err_and}
 use Rattle.sheet_axes.proofs.Axes.{at_start_lem, with_is, axis_stops, all_axes_lem, more_axes, ninth, still_long}
 use Rattle.sheet_axes.proofs.read_axes.Goals as goal
@@ -7,51 +7,62 @@ use Rattle.sheet_axes.proofs.read_axes.Goals as goal
 pub loop-k-init : goal.loop-k-init
 loop-k-init c =
     let a = c.args in
-    let (h, lp, ls, le) = c.requires in
+    let here = a.cursor.now in
     record {
-      points_long = lp;
-      start_long = ls;
-      end_long = le;
+      same = refl;
+      points_long = c.told-points;
+      start_long = c.told-start;
+      end_long = c.told-end;
       counted = refl;
-      sofar = at_start_lem a.text.now a.from a.points.now a.start.now a.end.now h lp ls le;
+      sofar = at_start_lem here.text.now here.at a.points.now a.start.now a.end.now here.inside c.told-points c.told-start c.told-end;
     }
 
 pub returns-in_err-read : goal.returns-in_err-read
 returns-in_err-read c =
+    let here = c.args.cursor.now in
     let l = c.loop-k in
     let i = l.invariant in
     let p = err_from_is_err_and c.from_residual.result c.from_residual.ensures.1 in
     rw (p.1, p.2)
-    (axis_stops c.args.text.now c.args.from l.k l.place _ l.points l.start l.end i.sofar c.loop-k-test.true i.points_long i.start_long i.end_long _
-    c.in_err-read.ensures)
+    (axis_stops here.text.now here.at l.k l.cursor.at _ l.points l.start l.end i.sofar c.loop-k-test.true i.points_long i.start_long i.end_long _
+    (rw i.same at c.in_err-read.ensures.says))
 
-pub returns-then-text-place : goal.returns-then-text-place
-returns-then-text-place c =
+pub returns-then-cursor : goal.returns-then-cursor
+returns-then-cursor c =
+    let here = c.args.cursor.now in
     let l = c.loop-k in
     let i = l.invariant in
-    let is = c.with_axis-sizes.ensures ∙ with_is l.sofar l.k c.in_ok-read.read.value i.counted in
+    let is = c.with_axis-sizes.ensures ∙ with_is l.sofar l.k c.in_ok-read.read i.counted in
+    let long = ap (λ t. length t) (c.in_ok-read.ensures.same ∙ i.same) in
+    let ended : length here.text.now ≤ c.axis.new.cursor.at = omega (arith, long, c.if-cursor.true) in
     rw is
-    (all_axes_lem c.args.text.now c.args.from l.k l.place _ l.points l.start l.end i.sofar c.loop-k-test.true i.points_long i.start_long i.end_long _ _ _
-    _ _ c.in_ok-read.ensures c.if-text-place.true)
+    (all_axes_lem here.text.now here.at l.k l.cursor.at _ l.points l.start l.end i.sofar c.loop-k-test.true i.points_long i.start_long i.end_long _ _ _
+    _ _ (rw i.same at c.in_ok-read.ensures.says) ended)
 
 pub loop-k-preserved : goal.loop-k-preserved
 loop-k-preserved c =
+    let here = c.args.cursor.now in
     let l = c.loop-k in
     let i = l.invariant in
     let room = c.loop-k-test.true in
     let one : 1 ≤ l.k + 1 = omega arith in
-    let is = c.with_axis-sizes.ensures ∙ with_is l.sofar l.k c.in_ok-read.read.value i.counted in
+    let is = c.with_axis-sizes.ensures ∙ with_is l.sofar l.k c.in_ok-read.read i.counted in
+    let same = c.in_ok-read.ensures.same ∙ i.same in
+    let long = ap (λ t. length t) same in
+    let on : c.axis.new.cursor.at < length here.text.now = omega (arith, long, c.if-cursor.false, c.axis.new.cursor.inside) in
     record {
+      same = same;
       points_long = still_long l.k room 258 l.points i.points_long c.axis.new.points c.axis.auto.points;
       start_long = still_long l.k room 4 l.start i.start_long c.axis.new.start c.axis.auto.start;
       end_long = still_long l.k room 4 l.end i.end_long c.axis.new.end c.axis.auto.end;
       counted = one;
       sofar = rw is
-          (more_axes c.args.text.now c.args.from l.k l.place _ l.points l.start l.end i.sofar room i.points_long i.start_long i.end_long _ _ _ _ _
-          c.in_ok-read.ensures c.if-text-place.false);
+          (more_axes here.text.now here.at l.k l.cursor.at _ l.points l.start l.end i.sofar room i.points_long i.start_long i.end_long _ _ _ _ _
+          (rw i.same at c.in_ok-read.ensures.says) on);
     }
 
 pub returns : goal.returns
 returns c =
+    let here = c.args.cursor.now in
     let l = c.loop-k in
-    rw c.invalid_sheet.ensures (ninth c.args.text.now c.args.from l.place _ l.points l.start l.end l.k c.loop-k-test.false l.invariant.sofar)
+    rw c.invalid_sheet.ensures (ninth here.text.now here.at l.cursor.at _ l.points l.start l.end l.k c.loop-k-test.false l.invariant.sofar)

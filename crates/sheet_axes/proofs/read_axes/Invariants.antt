@@ -5,10 +5,12 @@ use Rattle.sheet_axes.proofs.read_axes.Given as goal
 
 abbrev pub invariant-loop-k : goal.invariant-loop-k
 invariant-loop-k l =
+    let from = l.fn.cursor in
     record {
+      same : l.cursor.text.now ≡ from.text.now;
       points_long : length l.points ≡ 2064;
       start_long : length l.start ≡ 32;
       end_long : length l.end ≡ 32;
       counted : IsCounted l.sofar l.k;
-      sofar : Sofar l.text l.fn.from l.k l.place (counted_in l.sofar) l.points l.start l.end;
+      sofar : Sofar from.text.now from.at l.k l.cursor.at (counted_in l.sofar) l.points l.start l.end;
     }

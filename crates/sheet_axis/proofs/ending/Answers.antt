@@ -6,26 +6,27 @@ use Rattle.sheet_axis.proofs.Joins.{word_reads, word_stops, pair_fails, pair_sto
 use Rattle.sheet_axis.proofs.Parts.{end_closed}
 use Rattle.sheet_axis.proofs.ending.Goals as goal
 
-pub word-requires : goal.word-requires
-word-requires c = c.in_ok-last.ensures.reads.inside
-
-pub returns-in_err-last : goal.returns-in_err-last
+pub returns-in_err-last-clause-says : goal.returns-in_err-last-clause-says
 unfolding read_end
-returns-in_err-last c =
+returns-in_err-last-clause-says c =
+    let here = c.args.cursor.now in
     let p = err_from_is_err_and c.from_residual.result c.from_residual.ensures.1 in
-    rw (p.1, p.2) (pair_fails (λ e u. e) _ _ c.args.text.now c.args.from _ c.in_err-last.ensures)
+    rw (p.1, p.2) (pair_fails (λ e u. e) _ _ here.text.now here.at _ c.in_err-last.ensures.says)
 
-pub returns-in_err-next : goal.returns-in_err-next
+pub returns-in_err-word-clause-says : goal.returns-in_err-word-clause-says
 unfolding read_end
-returns-in_err-next c =
-    let p = err_from_is_err_and c.from_residual-in_err-next.result c.from_residual-in_err-next.ensures.1 in
-    let text = c.args.text.now in
+returns-in_err-word-clause-says c =
+    let here = c.args.cursor.now in
+    let p = err_from_is_err_and c.from_residual-in_err-word.result c.from_residual-in_err-word.ensures.1 in
     let l = c.in_ok-last.ensures in
-    let h = c.in_err-next.ensures in
-    rw (p.1, p.2) (pair_stops (λ e u. e) _ _ text c.args.from l.items _ l.reads _ (word_stops text (bytes ")\n") _ _ h.says h.inside))
+    let w = rw l.same at c.in_err-word.ensures.says in
+    let within = rw l.same at c.in_err-word.ensures.inside in
+    rw (p.1, p.2) (pair_stops (λ e u. e) _ _ here.text.now here.at l.says.items _ l.says.reads _ (word_stops here.text.now (bytes ")\n") _ _ w within))
 
-pub returns : goal.returns
-returns c =
-    let text = c.args.text.now in
-    let h = c.in_ok-next.ensures in
-    end_closed text c.args.from c.args.out.now _ _ _ c.in_ok-last.ensures _ (word_reads text (bytes ")\n") _ _ h.says h.inside.1)
+pub returns-clause-says : goal.returns-clause-says
+returns-clause-says c =
+    let here = c.args.cursor.now in
+    let l = c.in_ok-last.ensures in
+    let w = rw l.same at c.in_ok-word.ensures.says in
+    let within = rw (c.in_ok-word.ensures.same, l.same) at c.word.new.cursor.inside in
+    end_closed here.text.now here.at c.args.out.now _ _ _ l.says _ (word_reads here.text.now (bytes ")\n") _ _ w within)

@@ -6,23 +6,25 @@ use Rattle.sheet_axis.proofs.Joins.{pair_fails, pair_stops}
 use Rattle.sheet_axis.proofs.Parts.{states_read}
 use Rattle.sheet_axis.proofs.states.Goals as goal
 
-pub ending-requires : goal.ending-requires
-ending-requires c = (c.in_ok-first.ensures.reads.inside, c.requires.2)
-
-pub returns-in_err-first : goal.returns-in_err-first
+pub returns-in_err-first-clause-says : goal.returns-in_err-first-clause-says
 unfolding read_states
-returns-in_err-first c =
+returns-in_err-first-clause-says c =
+    let here = c.args.cursor.now in
     let p = err_from_is_err_and c.from_residual.result c.from_residual.ensures.1 in
-    rw (p.1, p.2) (pair_fails states _ _ c.args.text.now c.args.from _ c.in_err-first.ensures)
+    rw (p.1, p.2) (pair_fails states _ _ here.text.now here.at _ c.in_err-first.ensures.says)
 
-pub returns-in_err-last : goal.returns-in_err-last
+pub returns-in_err-last-clause-says : goal.returns-in_err-last-clause-says
 unfolding read_states
-returns-in_err-last c =
+returns-in_err-last-clause-says c =
+    let here = c.args.cursor.now in
     let p = err_from_is_err_and c.from_residual-in_err-last.result c.from_residual-in_err-last.ensures.1 in
     let l = c.in_ok-first.ensures in
-    rw (p.1, p.2) (pair_stops states _ _ c.args.text.now c.args.from l.items _ l.reads _ c.in_err-last.ensures)
+    rw (p.1, p.2)
+    (pair_stops states _ _ here.text.now here.at l.says.items _ l.says.reads _ (rw l.same at c.in_err-last.ensures.says))
 
-pub returns : goal.returns
-returns c =
+pub returns-clause-says : goal.returns-clause-says
+returns-clause-says c =
     let a = c.args in
-    states_read a.text.now a.from a.start.now a.end.now _ _ _ c.in_ok-first.ensures _ _ _ c.in_ok-last.ensures
+    let here = a.cursor.now in
+    let l = c.in_ok-first.ensures in
+    states_read here.text.now here.at a.start.now a.end.now _ _ _ l.says _ _ _ (rw l.same at c.in_ok-last.ensures.says)

@@ -1,64 +1,91 @@
 -- An item is by how it begins; a list is by what follows each item. Assumes nothing.
-use Rattle.std.proofs.Common.{refl, arith, ◌∙◌}
+use Rattle.std.proofs.Common.{refl, sym, arith, ◌∙◌}
 use Rattle.std.proofs.lemmas.Result.{err_from_is_err_and}
 use Rattle.sheet_items.proofs.Forms.{number_is, form_stops, form_is}
+use Rattle.sheet_items.proofs.Follow.{open_number, open_bracket}
 use Rattle.sheet_items.proofs.Lists.{at_start_lem, stopped, faulty, closed, one_more}
 use Rattle.sheet_items.proofs.+item_list.Goals as goal
 
-pub item-returns-in_err-inner-in-Again : goal.item-returns-in_err-inner-in-Again
-item-returns-in_err-inner-in-Again t c =
+pub item-open_form-requires : goal.item-open_form-requires
+item-open_form-requires t c =
+    let here = c.args.cursor.now in
+    open_bracket here.text.now here.at c.args.depth here.inside c.byte.result c.byte.ensures (sym c.ne.ensures ∙ c.if-ne.false)
+
+pub item-returns-then-ne-clause-says : goal.item-returns-then-ne-clause-says
+item-returns-then-ne-clause-says t c =
     let a = c.args in
-    let p = err_from_is_err_and c.from_residual-in_err-inner-in-Again.result c.from_residual-in_err-inner-in-Again.ensures.1 in
+    let here = a.cursor.now in
+    number_is here.text.now here.at a.depth a.out.now a.at
+    (open_number here.text.now here.at a.depth here.inside c.byte.result c.byte.ensures (sym c.ne.ensures ∙ c.if-ne.true))
+    c.number_item.new.cursor.at c.number_item.result c.number_item.new.out c.number_item.ensures.says
+
+pub item-returns-in_err-inner-clause-says : goal.item-returns-in_err-inner-clause-says
+item-returns-in_err-inner-clause-says t c =
+    let a = c.args in
+    let here = a.cursor.now in
+    let p = err_from_is_err_and c.from_residual-in_err-inner.result c.from_residual-in_err-inner.ensures.1 in
     rw (p.1, p.2)
-    (form_stops a.text.now a.from a.depth a.out.now a.at c.in-Again.heading (rw c.in-Again.is at c.in_ok-open_item.ensures) _
-    c.in_err-inner-in-Again.ensures)
+    (form_stops here.text.now here.at a.depth a.out.now a.at c.open_form.new.cursor.at c.in_ok-times.times c.in_ok-times.ensures.says _
+    (rw c.open_form.ensures.same at c.in_err-inner.ensures.says))
 
-pub item-returns-in-Number : goal.item-returns-in-Number
-item-returns-in-Number t c =
+pub item-returns-clause-says : goal.item-returns-clause-says
+item-returns-clause-says t c =
     let a = c.args in
-    number_is a.text.now a.from a.depth a.out.now a.at (rw c.in-Number.is at c.in_ok-open_item.ensures) _ _ c.number_item.ensures
+    let here = a.cursor.now in
+    form_is here.text.now here.at a.depth a.out.now a.at c.open_form.new.cursor.at c.in_ok-times.times c.in_ok-times.ensures.says (omega arith) _ _ _ _
+    (rw c.open_form.ensures.same at c.in_ok-inner.ensures.says) _ _ c.repeat.ensures
 
-pub item-returns-in_ok-inner-in-Again : goal.item-returns-in_ok-inner-in-Again
-item-returns-in_ok-inner-in-Again t c =
+pub list-loop-numbers-init : goal.list-loop-numbers-init
+list-loop-numbers-init t c =
     let a = c.args in
-    form_is a.text.now a.from a.depth a.out.now a.at c.in-Again.heading (rw c.in-Again.is at c.in_ok-open_item.ensures) (omega arith) _ _ _ _
-    c.in_ok-inner-in-Again.ensures _ _ c.repeat-end.ensures
-
-pub list-loop-read-init : goal.list-loop-read-init
-list-loop-read-init t c =
-    let a = c.args in
-    record { room = refl; sofar = at_start_lem a.text.now a.from a.depth a.out.now a.at (omega arith) (omega arith) a.from }
-
-pub list-returns-in_err-read : goal.list-returns-in_err-read
-list-returns-in_err-read t c =
-    let a = c.args in
-    let l = c.loop-read in
-    let p = err_from_is_err_and c.from_residual.result c.from_residual.ensures.1 in
-    rw (p.1, p.2)
-    (stopped a.text.now a.from a.depth a.out.now a.at (omega arith) l.place l.end l.over l.out l.invariant.sofar _ c.in_err-read.ensures)
-
-pub list-returns-in_err-start : goal.list-returns-in_err-start
-list-returns-in_err-start t c =
-    let a = c.args in
-    let l = c.loop-read in
-    let p = err_from_is_err_and c.from_residual-in_err-start.result c.from_residual-in_err-start.ensures.1 in
-    rw (p.1, p.2)
-    (faulty a.text.now a.from a.depth a.out.now a.at (omega arith) l.place l.end l.over l.out l.invariant.sofar _ _ _ c.in_ok-read.ensures _
-    c.in_err-start.ensures)
-
-pub list-loop-read-preserved : goal.list-loop-read-preserved
-list-loop-read-preserved t c =
-    let a = c.args in
-    let l = c.loop-read in
+    let here = a.cursor.now in
     record {
-      room = c.item.auto.out ∙ l.invariant.room;
-      sofar = one_more a.text.now a.from a.depth a.out.now a.at (omega arith) l.place l.end l.over l.out l.invariant.sofar _ _ _ c.in_ok-read.ensures _
-          c.later-over.ensures _ (rw c.in-Item.is at c.in_ok-start.ensures);
+      same = refl;
+      left = refl;
+      room = refl;
+      sofar = at_start_lem here.text.now here.at a.depth a.out.now a.at (omega arith) here.inside here.at;
     }
 
-pub list-returns-in-Close : goal.list-returns-in-Close
-list-returns-in-Close t c =
+pub list-returns-in_err-numbers-clause-says : goal.list-returns-in_err-numbers-clause-says
+list-returns-in_err-numbers-clause-says t c =
     let a = c.args in
-    let l = c.loop-read in
-    closed a.text.now a.from a.depth a.out.now a.at (omega arith) l.place l.end l.over l.out l.invariant.sofar _ _ _ c.in_ok-read.ensures _
-    c.later-over.ensures _ (rw c.in-Close.is at c.in_ok-start.ensures)
+    let here = a.cursor.now in
+    let l = c.loop-numbers in
+    let p = err_from_is_err_and c.from_residual.result c.from_residual.ensures.1 in
+    rw (p.1, p.2)
+    (stopped here.text.now here.at a.depth a.out.now a.at (omega arith) l.here.at l.numbers l.over l.out l.invariant.sofar _
+    (rw l.invariant.same at c.in_err-numbers.ensures.says))
+
+pub list-returns-in_err-more-clause-says : goal.list-returns-in_err-more-clause-says
+list-returns-in_err-more-clause-says t c =
+    let a = c.args in
+    let here = a.cursor.now in
+    let l = c.loop-numbers in
+    let p = err_from_is_err_and c.from_residual-in_err-more.result c.from_residual-in_err-more.ensures.1 in
+    rw (p.1, p.2)
+    (faulty here.text.now here.at a.depth a.out.now a.at (omega arith) l.here.at l.numbers l.over l.out l.invariant.sofar _ _ _
+    (rw l.invariant.same at c.in_ok-numbers.ensures.says) c.more.new.cursor.at _
+    (rw (c.item.ensures.same, l.invariant.same) at c.in_err-more.ensures.says))
+
+pub list-loop-numbers-preserved : goal.list-loop-numbers-preserved
+list-loop-numbers-preserved t c =
+    let a = c.args in
+    let here = a.cursor.now in
+    let l = c.loop-numbers in
+    record {
+      same = c.more.ensures.same ∙ c.item.ensures.same ∙ l.invariant.same;
+      left = l.invariant.left;
+      room = c.item.auto.out ∙ l.invariant.room;
+      sofar = one_more here.text.now here.at a.depth a.out.now a.at (omega arith) l.here.at l.numbers l.over l.out l.invariant.sofar _ _ _
+          (rw l.invariant.same at c.in_ok-numbers.ensures.says) _ c.later-over.ensures _
+          (rw (c.if-not-branch.false, c.item.ensures.same, l.invariant.same) at c.in_ok-more.ensures.says);
+    }
+
+pub list-returns-then-not-branch-clause-says : goal.list-returns-then-not-branch-clause-says
+list-returns-then-not-branch-clause-says t c =
+    let a = c.args in
+    let here = a.cursor.now in
+    let l = c.loop-numbers in
+    closed here.text.now here.at a.depth a.out.now a.at (omega arith) l.here.at l.numbers l.over l.out l.invariant.sofar _ _ _
+    (rw l.invariant.same at c.in_ok-numbers.ensures.says) _ c.later-over.ensures _
+    (rw (c.if-not-branch.true, c.item.ensures.same, l.invariant.same) at c.in_ok-more.ensures.says)

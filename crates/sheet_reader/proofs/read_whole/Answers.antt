@@ -6,25 +6,27 @@ use Rattle.sheet_axis.proofs.Joins.{pair_fails, pair_stops}
 use Rattle.sheet_reader.proofs.Whole.{stops_whole, sized_whole, read_whole}
 use Rattle.sheet_reader.proofs.read_whole.Goals as goal
 
-pub read_axes-requires : goal.read_axes-requires
-read_axes-requires c = (c.in_ok-first.ensures.reads.inside, c.requires.0, c.requires.1, c.requires.2)
-
 pub returns-in_err-first : goal.returns-in_err-first
 unfolding read_sheet
 returns-in_err-first c =
     let p = err_from_is_err_and c.from_residual.result c.from_residual.ensures.1 in
     let text = c.args.text.now in
-    rw (p.1, p.2) (stops_whole text _ (pair_fails sheet _ _ text 0 _ c.in_err-first.ensures))
+    rw (p.1, p.2) (stops_whole text _ (pair_fails sheet _ _ text 0 _ c.in_err-first.ensures.says))
 
 pub returns-in_err-rest : goal.returns-in_err-rest
 unfolding read_sheet
 returns-in_err-rest c =
     let p = err_from_is_err_and c.from_residual-in_err-rest.result c.from_residual-in_err-rest.ensures.1 in
-    let text = c.args.text.now in
-    rw (p.1, p.2) (stops_whole text _ (pair_stops sheet _ _ text 0 _ _ c.in_ok-first.ensures.reads _ c.in_err-rest.ensures))
+    let first = c.in_ok-first.ensures in
+    let reads = rw (← first.same) at first.says.reads in
+    rw (p.1, p.2, ← first.same) (stops_whole c.heading.new.cursor.text.now _ (pair_stops sheet _ _ _ 0 _ _ reads _ c.in_err-rest.ensures))
 
 pub returns-in-Some : goal.returns-in-Some
-returns-in-Some c = sized_whole c.args.text.now _ _ c.in_ok-first.ensures c.in_ok-rest.rest _ _ _ c.in_ok-rest.ensures _ c.in-Some.is
+returns-in-Some c =
+    let first = c.in_ok-first.ensures in
+    sized_whole c.args.text.now _ _ first.says c.in_ok-rest.rest _ _ _ (rw first.same at c.in_ok-rest.ensures) _ c.in-Some.is
 
 pub returns-in-None : goal.returns-in-None
-returns-in-None c = read_whole c.args.text.now _ _ c.in_ok-first.ensures c.in_ok-rest.rest _ _ _ c.in_ok-rest.ensures c.in-None.is
+returns-in-None c =
+    let first = c.in_ok-first.ensures in
+    read_whole c.args.text.now _ _ first.says c.in_ok-rest.rest _ _ _ (rw first.same at c.in_ok-rest.ensures) c.in-None.is
