@@ -6,13 +6,9 @@ ghost use Rattle.std.specs.Prelude.{◌≡◌, length};
 ghost use Rattle.rules.specs.SheetAnswers.{place_answered, sheet_answered, sheet_place, sheet_answer, sheet_buffer};
 
 use rules::{PathRecord, SheetError};
+use sheet_axes::{POINTS_ROOM, STATE_ROOM};
 use sheet_reader::read_sheet;
 use sheet_record::SheetRead;
-
-// What 8 axes take of points, and of a state's numbers: one more of each than an axis may have.
-const POINTS_ROOM: usize = 2064;
-
-const STATE_ROOM: usize = 32;
 
 // A1, J12, J13: the refusal that the program prints, the build's questions included. Nothing is written.
 #[tactic(auto, using(crate::proofs::Answers::it_is_reached))]

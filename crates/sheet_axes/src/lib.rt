@@ -21,14 +21,14 @@ pub struct AxesRead {
 // crates/questions for it alone.)
 const MOST_AXES: usize = 8;
 
-// What so many axes take of points, and of a state's numbers.
+// What so many axes take of points, and of a state's numbers: one more of each than an axis may have.
 pub const POINTS_ROOM: usize = MOST_AXES * TOO_MANY_POINTS;
 
 pub const STATE_ROOM: usize = MOST_AXES * TOO_MANY_NUMBERS;
 
 // J1, J20: the axes, 8 at the most, to the end of the text. (The loop by number stays: each axis is lent its part of each of the three
-// buffers, and iterators over the parts would have to be zipped twice, and do not say how long a part is. The buffers stay three
-// parameters, as crates/sheet_axis says.)
+// buffers, so iterators over the parts would have to be zipped twice, and of what is lent inside a zip no more is known afterwards than
+// its length. The buffers stay three parameters, as crates/sheet_axis says.)
 pub fn read_axes(
     cursor: &mut Cursor,
     points: &mut [i64; POINTS_ROOM],

@@ -1,6 +1,6 @@
 // An axis of a job sheet: three lists with fixed bytes between them, each written into a buffer that is one longer than it may be.
 // What was counted, and where, is handed on (crates/sheet_sizes). (The buffers stay parameters of their own, here, in
-// crates/sheet_axes and in crates/sheet_reader: a struct of the three would be made anew for each axis, from its parts of them, and be
+// crates/sheet_axes and in crates/sheet_reader: a struct of the three would be made anew for each axis, of its parts of the buffers, and be
 // taken apart at once, and each contract would say in addition that it holds the buffers that were lent. That a buffer has room for at
 // most 258 numbers stays a clause, since buffers of 258 and of 4 are lent to the same routines.)
 #![tactic(auto)]

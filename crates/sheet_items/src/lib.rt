@@ -82,7 +82,7 @@ fn item(cursor: &mut Cursor, depth: usize, out: &mut [i64], at: usize) -> Result
 
 // F12, J6: a list inside `depth` forms, with its closing bracket: one item after the other, each read by the item routine. (The loop
 // stays: an iterator over the items would have to hold both the cursor and the buffer. It moves a copy of the cursor, which is put
-// back at the end: with the cursor itself, sheets took 1.1 to 1.3 of the time.)
+// back at the end: with the cursor itself, sheets took 1.1 to 1.3 times as long.)
 #[cycle(item_list)]
 pub fn list(
     cursor: &mut Cursor,

@@ -48,8 +48,8 @@ fn plain(cursor: &mut Cursor, start: usize) -> Result<i64, SheetError>
 }
 
 // J3, J22: a number: an optional minus, then 0 alone where there is none, or digits that do not lead with a 0. (Its first byte stays
-// matched, and is not eaten: with `eat` for 0 and minus, sheets of short numbers took 1.2 of the time. It is inlined, so that a list's
-// loop has the cursor in registers: where it was called, sheets took up to 1.4 of the time.)
+// matched, and is not eaten: with `eat` for 0 and minus, sheets of short numbers took 1.2 times as long. It is inlined, so that a list's
+// loop has the cursor in registers: where it was called, sheets took up to 1.4 times as long.)
 #[inline(always)]
 pub fn number(cursor: &mut Cursor) -> Result<i64, SheetError>
     ensures same { cursor.new.text.now ≡ cursor.old.text.now }

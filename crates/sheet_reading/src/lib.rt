@@ -21,10 +21,7 @@ impl Cursor<'_> {
     pub fn byte(&self) -> Option<u8>
         ensures { result ≡ slice_get self.now.text.now self.now.at }
     {
-        if self.at == self.text.len() {
-            return None;
-        }
-        Some(self.text[self.at])
+        self.text.get(self.at).copied()
     }
 
     // Passes a byte, if it stands there.
