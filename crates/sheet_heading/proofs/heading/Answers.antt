@@ -40,8 +40,7 @@ returns-clause-says c =
     let o = c.in_ok-led_number.ensures in
     let f = rw o.same at c.in_ok-led_number-2.ensures.says in
     let t = rw (c.in_ok-led_number-2.ensures.same, o.same) at c.in_ok-upper.ensures.says in
-    rw
-    (
+    rw (
       near_kept c.in_ok-led_number.field-0 o.says.near,
       near_kept c.in_ok-led_number-2.field-0 f.near,
       near_kept c.in_ok-upper.field-0 t.near,
