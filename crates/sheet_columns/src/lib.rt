@@ -13,7 +13,8 @@ use rules::SplineInput;
 use sheet_record::SheetRead;
 
 // So many lists in a buffer, each as far from the next as the stride, with so many numbers each. (Stride, rows and columns stay numbers
-// beside the buffer: between the lists are places that were not written, and a list of the lists would need room of its own.)
+// beside the buffer: std's `as_chunks` would show the lists as arrays, but what was read is said of the one buffer, so each fact of it would
+// have to be carried over.)
 #[derive(Clone, Copy)]
 struct Lists<'a> {
     buffer: &'a [i64],
