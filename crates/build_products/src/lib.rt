@@ -12,7 +12,8 @@ ghost use Rattle.build_products.specs.Columns.{transposed};
 
 // R3: the sum of the products: the numbers of a from `at` on, each `step` behind the one before, times those of v.
 // (`at` stays a number: it is no length, but the place of the first, and with a slice `&a[at..]` each caller's promise would speak of what is
-// left of its list behind a place, where the definitions speak of the list.)
+// left of its list behind a place, where the definitions speak of the list. The loop's place stays counted by hand: with `step_by` and `zip`
+// the proof would know of a what is left of it, and would have to count each place back from there.)
 pub fn dot(a: &[f64], at: usize, step: usize, v: &[f64]) -> f64
     requires { (1 ≤ length v.now) × (at + (length v.now * step) < length a.now + step) }
     ensures { result ≡ sum_of (length v.now) (λ j. a.now ! (at + j * step) ⊗ v.now ! j) }

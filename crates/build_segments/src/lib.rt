@@ -47,8 +47,8 @@ pub fn upper_coeffs(tables: &BlockMatrices, dy: f64, u0: &[f64], u1: &[f64], out
     }
 }
 
-// A list copied into another of its length. (A node has three numbers at most: std's copy_from_slice asks the C library, which costs a
-// segment of order 3 a tenth of its time.)
+// A list copied into another of its length. (The loop stays: a node has three numbers at most, and std's copy_from_slice asks the C
+// library, which costs a segment of order 3 a tenth of its time.)
 fn copy_few(from: &[f64], to: &mut [f64])
     requires { length to.old ≡ length from.now }
     ensures { to.new ≡ from.now }

@@ -40,7 +40,8 @@ fn fill_with<const ENTRIES: usize, const ROWS: usize, const NUMBERS: usize>(
 
 // F10: "Lists per node: fixed arrays for 255 nodes", whose matrices the first 91 have all. A curve with fewer nodes has
 // shorter ones, since an array is set to zero before it is used; two points have no inner node.
-// (Plan and buffer stay two parameters, and the buffer's length stays a clause, as above.)
+// (Plan and buffer stay two parameters, and the buffer's length stays a clause, as above; and the tests stay, since lengths of arrays are
+// const parameters, and no number becomes one.)
 pub fn fill(plan: &Plan, coeffs: &mut [f64])
     requires { length coeffs.old ≡ cells_of plan.now }
     ensures { coeffs.new ≡ all_axes plan.now }

@@ -2,6 +2,7 @@
 // What it prints is sheet_print::print_sheet's to say, whatever the bytes are.
 #![tactic(auto)]
 
+use sheet_print::{MOST_BYTES, MOST_CELLS};
 use std::io;
 use std::io::{Cursor, Read};
 
@@ -9,8 +10,8 @@ use std::io::{Cursor, Read};
 fn print<P: Print>(
     printer: &P,
     text: &[u8],
-    coeffs: &mut [f64; 16384],
-    out: &mut [u8; 302240],
+    coeffs: &mut [f64; MOST_CELLS],
+    out: &mut [u8; MOST_BYTES],
 ) -> io::Result<()> {
     let count = sheet_print::print_sheet(text, coeffs, out).unwrap_or(0);
     printer.write_all(&out[..count.min(out.len())])
@@ -20,8 +21,8 @@ fn print<P: Print>(
 // A read that fails, or a write, is the program's error.
 fn main(rt: HostRuntime) -> io::Result<()> {
     let mut text = [0; 32769];
-    let mut coeffs = [0.0; 16384];
-    let mut out = [0; 302240];
+    let mut coeffs = [0.0; MOST_CELLS];
+    let mut out = [0; MOST_BYTES];
     let copied = io::copy(&mut rt.stdin().take(32769), &mut Cursor::new(&mut text[..]))?;
     let n = text.len().min(copied as usize);
     print(&rt, &text[..n], &mut coeffs, &mut out)

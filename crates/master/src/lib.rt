@@ -33,7 +33,8 @@ fn check_segments<const M: usize>(lists: MasterLists) -> Result<bool, PathError>
     Ok(good)
 }
 
-// A1, D1, M8, M9, M10: the check. It reads what it is given and writes nothing.
+// A1, D1, M8, M9, M10: the check. It reads what it is given and writes nothing. (The match stays: m is a const parameter of the pass, and no
+// number becomes one.)
 #[tactic(auto, using(crate::proofs::Pass::by_orders))]
 pub fn check_master(order: usize, lists: MasterLists) -> Result<bool, PathError>
     ensures { master_says result ≡ check_master (set_with order lists.entry) }

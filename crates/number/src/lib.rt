@@ -8,7 +8,7 @@ ghost use Rattle.rules.specs.SheetNumbers.{too_large, signed_by, begun, sound, g
 
 use number_byte::{ENDED, FRESH, LARGE, ZERO};
 use number_pieces::{digits, is_sound, next_byte};
-use rules::{NumberAnswer, NumberReading};
+use rules::{NumberAnswer, NumberReading, PathError};
 
 // N2: a number that is to be read from a place on.
 pub fn begin(at: usize) -> NumberReading
@@ -80,13 +80,13 @@ pub fn finish(reading: NumberReading) -> NumberAnswer
     }
     if is_large(reading) {
         return NumberAnswer {
-            number: 4,
+            number: u32::from(PathError::InvalidArgument),
             at: reading.start,
             value: 0,
         };
     }
     NumberAnswer {
-        number: 600,
+        number: u32::from(PathError::InvalidSheet),
         at: reading.next,
         value: 0,
     }

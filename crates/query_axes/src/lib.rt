@@ -22,7 +22,8 @@ fn put(level: Level, k: u8, cells: &mut [f64], axis: usize, x: f64)
 }
 
 // R28: the derivatives of every axis in one segment at tau, per unit of s. No derivative is evaluated that the
-// level does not write. (The path and its coefficients stay two parameters, as crates/query says.)
+// level does not write. (The path and its coefficients stay two parameters: `eval_at` has them so, and a struct of both would be made
+// for this call.)
 pub fn eval_axes(
     path: PathRecord,
     coeffs: &[f64],

@@ -146,7 +146,7 @@ pub struct NumberReading {
 }
 
 // N1: 0, the place after a number that was read, and its worth; or a refusal's number and place, and a worth of 0. (The number stays
-// beside the others, since the record crosses to C as it is, which has no enums with values.)
+// beside the others: what a reading says, `finished` of the definitions, is this record itself, and it crosses to C as it is.)
 #[repr(C)]
 #[derive(Clone, Copy)]
 pub struct NumberAnswer {

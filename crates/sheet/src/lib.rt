@@ -1,5 +1,8 @@
 // The entry points for job sheets: a sheet's number and place, and its table. Each takes any text and a buffer of any length, and
 // looks at the first 32,768 bytes of the text.
+//
+// What is alike in both stays in both: the arrays are lent, and no function can hand back what it lends. The matches stay, too: with
+// `map_err`, whose promise is said through its closure, the answer was tried and not proved.
 #![tactic(auto)]
 
 ghost use Rattle.std.specs.Prelude.{◌≡◌, length};

@@ -2,7 +2,7 @@
 // What was counted, and where, is handed on (crates/sheet_sizes). (The buffers stay parameters of their own, here, in
 // crates/sheet_axes and in crates/sheet_reader: a struct of the three would be made anew for each axis, of its parts of the buffers, and be
 // taken apart at once, and each contract would say in addition that it holds the buffers that were lent. That a buffer has room for at
-// most 258 numbers stays a clause, since buffers of 258 and of 4 are lent to the same routines.)
+// most 258 numbers stays a clause: what is lent are parts of buffers, of 258 or of 4 numbers, and `led` takes both.)
 #![tactic(auto)]
 
 ghost use Rattle.std.specs.Prelude.{◌≡◌, ◌≤◌, length};

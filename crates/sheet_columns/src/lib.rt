@@ -48,13 +48,18 @@ impl Lists<'_> {
     }
 }
 
+// What 8 axes of 257 points have as waypoints, and with three numbers each as a state.
+pub const WAYPOINTS_ROOM: usize = 2056;
+
+pub const NUMBERS_ROOM: usize = 24;
+
 // B11, B12: what a build is given of what was read: the configuration, and the lists by columns, which are written into arrays that are
 // lent.
 pub fn input<'a>(
     read: SheetRead,
-    waypoints: &'a mut [f64; 2056],
-    first: &'a mut [f64; 24],
-    last: &'a mut [f64; 24],
+    waypoints: &'a mut [f64; WAYPOINTS_ROOM],
+    first: &'a mut [f64; NUMBERS_ROOM],
+    last: &'a mut [f64; NUMBERS_ROOM],
 ) -> SplineInput<'a>
     ensures { given_by result ≡ input_read read.entry }
 {

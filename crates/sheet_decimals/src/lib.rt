@@ -15,7 +15,7 @@ pub enum DecimalError {
     Over,
 }
 
-// J22: 2^40.
+// J22: 2^40. (It stays apart from the limit of crates/master_numbers, which is M7's: rules of different things.)
 pub const LIMIT: u64 = 1_099_511_627_776;
 
 // Whether b is a digit, and not below the digit `least`.

@@ -2,7 +2,7 @@
 // routine call each other, and the bytes that remain fall. The list routine loops over its items, so the calls are as deep as forms
 // stand inside one another, which is four at the most. The numbers go into a buffer, as many as it holds. (Buffer and place stay two
 // parameters, `out` and `at`, and what is asked of them stays two clauses: a form's list is written from one place on and up to
-// another, so a struct of buffer and place would have a third place beside it, and each contract would say in addition that the struct
+// another, so a struct of buffer and place would have a second place beside it, and each contract would say in addition that the struct
 // still holds the buffer that was lent. Cursor and depth stay two parameters: the cursor goes on, the depth is another in each form.)
 #![tactic(auto)]
 

@@ -1,6 +1,7 @@
 // The program's output for a table, written byte for byte into a buffer that is lent: that of crates/rules/specs/SheetAnswers.antt.
 // Its lines are written by crates/sheet_lines. (Printing stays by hand, as crates/sheet_bits says; page and coefficients stay two
-// parameters, as crates/sheet_lines says.)
+// parameters, as crates/sheet_lines says, and so do path and coefficients: `SplinePath` is the query's, and a struct of both would be made
+// for one table.)
 #![tactic(auto)]
 
 ghost use Rattle.std.specs.Prelude.{◌≡◌, ◌++◌, ◌+◌, ◌*◌, ◌≤◌, length, drop};

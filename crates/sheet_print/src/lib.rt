@@ -25,10 +25,10 @@ fn write_answer(answer: Result<PathRecord, SheetError>, coeffs: &[f64], out: &mu
 }
 
 // J27: the cells of the longest table.
-const MOST_CELLS: usize = 16384;
+pub const MOST_CELLS: usize = 16384;
 
 // J27: the bytes of the longest output.
-const MOST_BYTES: usize = 302240;
+pub const MOST_BYTES: usize = 302240;
 
 // A1, D1, J9, J27: the program's whole output, written into the first bytes of a buffer; the others stay as they were. 16,384 cells
 // and 302,240 bytes suffice for every sheet, and shorter buffers are refused.

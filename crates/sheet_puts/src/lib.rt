@@ -25,7 +25,8 @@ pub fn push(out: &mut [i64], at: usize, z: i64) -> usize
 
 // J5: the numbers from `at` to `end`, which were just written, n times over: copied, as far as there is room, and never read again. (The
 // loop stays by hand: it reads what it wrote a block before, which no iterator over the slice that is written lends, and `copy_within`
-// copies one block, so that a loop over the blocks would stand round it and cut the last one short. That n is at least 1 stays a clause:
+// copies one block, so that a loop over the blocks would stand round it and cut the last one short. n stays beside the
+// buffer: it is no length, but how often the numbers are to stand. That it is at least 1 stays a clause:
 // `NonZero` would say this bound, and 64 would be asked all the same; and that there are at most 258 places stays one, so that no sum
 // overflows.)
 pub fn repeat(out: &mut [i64], at: usize, end: usize, n: usize) -> usize

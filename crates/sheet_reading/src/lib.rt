@@ -1,5 +1,6 @@
 // What the routines of the reader of job sheets share: the text with the place up to which it was read, and a refusal with its place.
-// What an answer says in the terms of the judge (crates/rules/specs/SheetReading.antt) stands in specs/.
+// What an answer says in the terms of the judge (crates/rules/specs/SheetReading.antt) stands in specs/. That the text is the same after a
+// routine stays a clause of each: a `&mut Cursor` can be given another text, and no type forbids it.
 #![tactic(auto)]
 
 ghost use Rattle.std.specs.Prelude.{◌≡◌, ◌≤◌, length, slice_get};
@@ -37,8 +38,8 @@ impl Cursor<'_> {
     }
 }
 
-// A list that was read into a buffer: how many numbers the buffer holds with it, and the place of the item in which it was filled up, if
-// it was.
+// A list that was read into a buffer: how many numbers the buffer holds with it, and the place of the item in which it was filled up. (That
+// place stays a number: where the buffer was not filled up nobody reads it, and an `Option` would be matched in the list's loop.)
 #[derive(Clone, Copy)]
 pub struct Count {
     pub numbers: usize,

@@ -17,8 +17,8 @@ pub struct AxisSizes {
     pub end: Count,
 }
 
-// What was counted on some axes: axis one's points, how many numbers each start list and each end list has (0 where they differ), and
-// the first refusal for a size.
+// What was counted on some axes: axis one's points, how many numbers each start list and each end list has, and the first refusal for a
+// size. (0 stays the number where lists differ: by J26 it is what the build is told then, and asks about.)
 #[derive(Clone, Copy)]
 pub struct AxesSizes {
     pub points: usize,

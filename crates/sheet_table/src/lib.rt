@@ -9,6 +9,7 @@ ghost use Rattle.rules.specs.SheetAnswers.{sheet_input, cells_of};
 ghost use Rattle.sheet_record.specs.ReadOf.{IsReadOf};
 
 use rules::{PathError, PathRecord};
+use sheet_columns::{NUMBERS_ROOM, WAYPOINTS_ROOM};
 use sheet_record::SheetRead;
 
 // J9, J13: the build. The table goes into the first cells of the buffer, and the others stay, so only a buffer that is too short is
@@ -20,9 +21,9 @@ pub fn build_read(read: SheetRead, coeffs: &mut [f64]) -> Result<PathRecord, Pat
         (build_answered result ≡ build_answer b (min (length before) (cells_of b)))
         × (coeffs.new ≡ buffer_after b (take (cells_of b) before) ++ drop (cells_of b) before) }
 {
-    let mut waypoints = [0.0; 2056];
-    let mut first = [0.0; 24];
-    let mut last = [0.0; 24];
+    let mut waypoints = [0.0; WAYPOINTS_ROOM];
+    let mut first = [0.0; NUMBERS_ROOM];
+    let mut last = [0.0; NUMBERS_ROOM];
     let input = sheet_columns::input(read, &mut waypoints, &mut first, &mut last);
     let cells = sheet_config::cells_of(read.numbers);
     let room = coeffs.len().min(cells);

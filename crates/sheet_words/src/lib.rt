@@ -9,8 +9,9 @@ use rules::SheetError;
 use sheet_reading::{Cursor, invalid_sheet};
 
 // J1, J2: fixed bytes. The refusal is at the first byte that is another, or at the end of the text. (So the loop stays: a comparison of
-// slices does not tell which byte is another. Cursor and bytes stay two parameters here, in `led` of crates/sheet_axis and in
-// `led_number` of crates/sheet_heading: the cursor goes on, and the bytes are others at each call.)
+// slices does not tell which byte is another, and `all` would take a closure that moves the cursor, whose contract is this loop's. Cursor
+// and bytes stay two parameters here, in `led` of crates/sheet_axis and in `led_number` of crates/sheet_heading: the cursor goes on, and
+// the bytes are others at each call.)
 pub fn word(cursor: &mut Cursor, w: &[u8]) -> Result<(), SheetError>
     ensures same { cursor.new.text.now ≡ cursor.old.text.now }
     ensures says { read_of cursor.old.text.now cursor.new.at result ≡ reading.word w.now (drop cursor.old.at cursor.old.text.now) }

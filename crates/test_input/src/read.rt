@@ -13,7 +13,7 @@ use rules::OutOfRangeMode;
 use std::io::Read;
 
 // Reads until a list is full, the input ends or a read fails, and returns how many bytes it put at the list's start. (The loop stays:
-// std's read_exact does not say how many bytes there were where they are too few.)
+// std's read_exact and io::copy hand back no count where a read fails, which here ends the input.)
 pub fn full<R: Read>(reader: &mut R, list: &mut [u8]) -> usize
     ensures { result ≤ length list.new }
 {
@@ -122,7 +122,7 @@ impl<R: Read + Drop> Input<R> {
         bits::float(self.digits::<34, 16>(17).magnitude)
     }
 
-    // A field with a mode: 0 Error, 1 Clamp.
+    // A field with a mode: 0 Error, 1 Clamp. (It stays a function: it reads the number, and neither type is this crate's.)
     pub fn mode(&mut self) -> OutOfRangeMode {
         if self.count() == 1 {
             OutOfRangeMode::Clamp

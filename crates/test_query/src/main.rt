@@ -7,7 +7,7 @@ ghost use Rattle.std.specs.Prelude.{◌≡◌, length};
 
 mod table;
 
-use query_levels::Buffers;
+use query_levels::{Buffers, Lengths};
 use rules::{PathError, PathParam, PathRecord, number_answered};
 use std::io;
 use std::io::Read;
@@ -28,17 +28,8 @@ fn next_path<R: Read + Drop>(input: &mut Input<R>) -> PathRecord {
     }
 }
 
-// Something for each of the four buffers.
-#[derive(Clone, Copy)]
-struct Each {
-    q: usize,
-    dq: usize,
-    ddq: usize,
-    dddq: usize,
-}
-
-fn next_each<R: Read + Drop>(input: &mut Input<R>) -> Each {
-    Each {
+fn next_lengths<R: Read + Drop>(input: &mut Input<R>) -> Lengths {
+    Lengths {
         q: input.small(),
         dq: input.small(),
         ddq: input.small(),
@@ -53,11 +44,14 @@ enum Entry {
     EvalPath,
 }
 
-fn next_entry<R: Read + Drop>(input: &mut Input<R>) -> Entry {
-    if input.small() == 1 {
-        Entry::EvalPath
-    } else {
-        Entry::EvalAt
+impl From<usize> for Entry {
+    // (It stays beside `mode` of crates/test_input: what is alike is that a 1 is asked for.)
+    fn from(number: usize) -> Entry {
+        if number == 1 {
+            Entry::EvalPath
+        } else {
+            Entry::EvalAt
+        }
     }
 }
 
@@ -68,19 +62,19 @@ struct Query {
     s: PathParam,
     entry: Entry,
     level: u8,
-    lent: Each,
+    lent: Lengths,
     number: usize,
-    written: Each,
+    written: Lengths,
 }
 
 fn next_query<R: Read + Drop>(input: &mut Input<R>) -> Query {
     Query {
         s: PathParam(input.cell()),
-        entry: next_entry(input),
+        entry: Entry::from(input.small()),
         level: (input.small() % 256) as u8,
-        lent: next_each(input),
+        lent: next_lengths(input),
         number: input.small(),
-        written: next_each(input),
+        written: next_lengths(input),
     }
 }
 

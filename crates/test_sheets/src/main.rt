@@ -4,6 +4,7 @@
 #![tactic(auto)]
 
 use rules::{PathError, PathRecord, SheetError};
+use sheet_print::{MOST_BYTES, MOST_CELLS};
 use std::io;
 use std::io::Read;
 use test_common::seen;
@@ -55,16 +56,16 @@ impl Served<'_> {
     fn prints_into<R: Read + Drop>(
         self,
         trial: &mut Trial<R>,
-        coeffs: &mut [f64; 16384],
-        out: &mut [u8; 302240],
+        coeffs: &mut [f64; MOST_CELLS],
+        out: &mut [u8; MOST_BYTES],
     ) {
         let count = printed(self.sheet, coeffs, out);
         trial.called(count == Ok(self.output.len()) && out.starts_with(self.output));
     }
 
     fn prints<R: Read + Drop>(self, trial: &mut Trial<R>) {
-        let mut coeffs = [0.0; 16384];
-        let mut out = [0; 302240];
+        let mut coeffs = [0.0; MOST_CELLS];
+        let mut out = [0; MOST_BYTES];
         self.prints_into(trial, &mut coeffs, &mut out);
     }
 
@@ -81,7 +82,7 @@ impl Served<'_> {
 fn trial_in<R: Read + Drop>(
     trial: &mut Trial<R>,
     sheet: &mut [u8; 32769],
-    output: &mut [u8; 302240],
+    output: &mut [u8; MOST_BYTES],
 ) {
     let n = trial.input.count();
     let length = trial.input.bytes(sheet, n);
@@ -96,7 +97,7 @@ fn trial_in<R: Read + Drop>(
 
 fn trial<R: Read + Drop>(trial: &mut Trial<R>) {
     let mut sheet = [0; 32769];
-    let mut output = [0; 302240];
+    let mut output = [0; MOST_BYTES];
     trial_in(trial, &mut sheet, &mut output);
 }
 
