@@ -3,7 +3,7 @@ ghost use Rattle.std.specs.Prelude.{◌≡◌};
 ghost use Rattle.law_lists.specs.Lists.{all};
 ghost use Rattle.rules.specs.Master.{within};
 
-// 2^40: 1,099,511,627,776
+// M7: 2^40, which is 1,099,511,627,776. (It stays apart from the limit of crates/sheet_decimals, which is J22's.)
 const LIMIT: i64 = 1 << 40;
 
 // M7: of one number.

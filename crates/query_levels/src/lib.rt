@@ -73,7 +73,8 @@ impl Lengths {
     }
 }
 
-// The four buffers that a caller lends: positions, first, second and third derivatives.
+// The four buffers that a caller lends: positions, first, second and third derivatives. (That they are the same ones after a query stays a
+// clause of each routine: a `&mut Buffers` can be given others, and no type forbids it.)
 #[derive(Drop)]
 pub struct Buffers<'a> {
     pub q: &'a mut [f64],
