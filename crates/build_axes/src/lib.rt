@@ -2,7 +2,7 @@
 // answered before (crates/build_questions).
 #![tactic(auto)]
 
-ghost use Rattle.std.specs.Prelude.{◌≡◌, ◌+◌, ◌*◌, ◌≤◌, length};
+ghost use Rattle.std.specs.Prelude.{◌≡◌, ◌*◌, ◌≤◌, length};
 ghost use Rattle.theorem_pivots.specs.Repeating.{distinct};
 ghost use Rattle.build_nodes.specs.NodeLists.{Room};
 ghost use Rattle.build_filling.specs.AllAxes.{cells_of, all_axes};

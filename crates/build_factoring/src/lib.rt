@@ -6,7 +6,7 @@
 
 ghost use Rattle.std.specs.Prelude.{◌≡◌, ◌+◌, ◌-◌, ◌*◌, ◌<◌, List, [], length, Float};
 ghost use Rattle.build_factoring.specs.Steps.{eliminated_to};
-ghost use Rattle.rules.specs.Solve.{entry, eliminated, factor};
+ghost use Rattle.rules.specs.Solve.{eliminated, factor};
 
 use build_pivots::{exchange_entries, identity, pivot_row};
 

@@ -1,7 +1,7 @@
 // The table of a build: the lists per node, which factoring and filling (crates/build_axes) are lent.
 #![tactic(auto)]
 
-ghost use Rattle.std.specs.Prelude.{◌≡◌, ◌+◌, ◌*◌, ◌≤◌, length};
+ghost use Rattle.std.specs.Prelude.{◌≡◌, ◌*◌, ◌≤◌, length};
 ghost use Rattle.theorem_pivots.specs.Repeating.{distinct};
 ghost use Rattle.build_filling.specs.AllAxes.{cells_of, all_axes};
 

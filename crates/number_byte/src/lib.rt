@@ -4,8 +4,8 @@
 // kept as it is. An enum would have to be made of the stage and turned back at each byte, with a case for the numbers that are no stage.
 #![tactic(auto)]
 
-ghost use Rattle.std.specs.Prelude.{◌≡◌, ◌^◌, ◌≤◌, true, ◌&&◌, ◌==◌};
-ghost use Rattle.rules.specs.SheetNumbers.{fresh, belongs, left, passed, with_digit, taken};
+ghost use Rattle.std.specs.Prelude.{◌≡◌, ◌^◌, ◌≤◌, true};
+ghost use Rattle.rules.specs.SheetNumbers.{belongs, left, passed, with_digit, taken};
 
 use rules::NumberReading;
 use sheet_decimals::{LIMIT, digit_from};

@@ -2,7 +2,6 @@
 // how many axes there are is known only at the end.
 #![tactic(auto)]
 
-ghost use Rattle.std.specs.Prelude.{◌≡◌};
 ghost use Rattle.sheet_axes.specs.Says.{AxesSay};
 
 use rules::SheetError;

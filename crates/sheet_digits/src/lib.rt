@@ -1,7 +1,7 @@
 // The numbers of the program's output, written in decimal onto a page, after fixed bytes (crates/sheet_bits).
 #![tactic(auto)]
 
-ghost use Rattle.std.specs.Prelude.{◌≡◌, ◌++◌, length};
+ghost use Rattle.std.specs.Prelude.{◌++◌};
 ghost use Rattle.rules.specs.Sheets.{natural};
 ghost use Rattle.sheet_bits.specs.Page.{HasRoom, Wrote};
 
