@@ -9,9 +9,10 @@ use native.Mathlib.Nat.{eq-or-lt_of_le, le_of_suc-le-suc, le_antisymm, not-suc-l
 use native.Mathlib.Nat.{add-zero, add-mul, zero-mul, suc-mul, mul_assoc, mul-le-mul_right}
 use native.Mathlib.Numerals.{add-one}
 use native.Mathlib.Omega.{arith}
-use lib.Dec.{T}
+use lib.Dec.{T, not_T}
 use lib.ListN.{length, get_or, take, drop, length-append, length-drop}
-use lib.Seq.{drop-length, take_all, take-append-le, drop-append-le, drop-append-add}
+use lib.Seq.{drop-cons, drop-length, take_all, take-append-le, drop-append-le, drop-append-add}
+use lib.Ieee.Bits.{is_false}
 use lib.Ieee.Fits.{and_i, and_l, and_r}
 use Rattle.law_lists.specs.Lists.{joined, listed, all, every}
 
@@ -76,10 +77,15 @@ unfolding all
 all_of f [] d h = tt
 all_of f (x ∷ xs) d h = and_i (f x) (all f xs) (h 0 (omega arith)) (all_of f xs d (λ i l. h (suc i) (omega arith)))
 
--- a loop over a list, with i elements behind it and none left
+-- a loop over a list, with i elements behind it: none is left, or the one at i and those after it
 pub all_none_left : {A : Type 0} (f : A → Bool) (xs : List A) (i : ℕ) → i ≤ length xs → length xs ≤ i → all f (drop i xs) ≡ true
 unfolding all
 all_none_left f xs i h l = rw (le_antisymm h l, drop-length)
+
+pub all_next : {A : Type 0} (f : A → Bool) (xs : List A) (i : ℕ) (d : A) → i < length xs → {b : Bool} → f (get_or xs i d) ≡ b
+    → all f (drop i xs) ≡ (b && all f (drop (i + 1) xs))
+unfolding all
+all_next f xs i d h e = rw (add-one, drop-cons xs i d, e)
 
 pub and_assoc : (a b c : Bool) → (a && b && c) ≡ (a && (b && c))
 and_assoc true b c = refl
@@ -107,7 +113,10 @@ unfolding every
 every_of zero f h = tt
 every_of (suc n) f h = and_i (every n f) (f n) (every_of n f (λ i l. h i (omega arith))) (h n (omega arith))
 
--- one place more is tested after those before it
+-- a loop over the places: one where the test fails decides, and one more is tested after those before it
+pub every_fails : (n : ℕ) (f : ℕ → Bool) (i : ℕ) → i < n → f i ≡ false → false ≡ every n f
+every_fails n f i h e = sym (is_false (every n f) (not_T (every n f) (λ t. subst T e (every_at n f t i h))))
+
 pub every_more : (f : ℕ → Bool) (n : ℕ) (b : Bool) → every n f ≡ b → every (n + 1) f ≡ (b && f n)
 unfolding every
 every_more f n b e = rw (add-one, e)

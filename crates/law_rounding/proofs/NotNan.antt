@@ -62,6 +62,13 @@ mul_number f (fin s m e) (fin false n d) h k = round_number f _ _ _
 
 -- ---- comparisons
 
+-- a comparison with a NaN is false
+pub no_more_than_nan : (x : Float) → le x nan ≡ false
+unfolding le lt eq
+no_more_than_nan nan = refl
+no_more_than_nan (inf s) = refl
+no_more_than_nan (fin s m e) = refl
+
 -- finite values bound no infinity: by `le`, and by `lt` where the comparison is that neither end is passed
 pub finite_between : (lo hi x : Float) → T (finite lo) → T (finite hi) → T (le lo x) → T (le x hi) → T (finite x)
 unfolding le lt eq

@@ -1,11 +1,11 @@
 -- Facts about natural numbers that the files beside this one share. Assumes nothing.
-use mathlib.Core.Path.{◌≡◌, refl, ap₂, ◌∙◌}
+use mathlib.Core.Path.{◌≡◌, refl, ap₂, ◌∙◌, subst}
 use mathlib.Core.Logic.{◌⊎◌, inl, inr}
 use Prim.Native.Nat.{ℕ, suc, ◌-◌, ◌*◌, ◌/◌, ◌≤◌, ◌<◌, compare, Ordering}
 use native.Mathlib.Nat.{mul-sub, mul_comm, le_antisymm, le_of_suc-le-suc, div-lt_iff_lt-mul, le-div_iff_mul-le}
 use native.Mathlib.Omega.{arith}
 use mathlib.Core.Bool.{Bool, true, false, not}
-use lib.Dec.{T, is_le, compare_is_eq, ltb, ltb→lt, nltb→le, leb→le, nleb→lt, eqb→eq}
+use lib.Dec.{T, is_le, compare_is_eq, eqb, ltb, ltb→lt, nltb→le, leb→le, nleb→lt, eqb→eq, eqb_refl}
 
 pub less_or_not : (a b : ℕ) → (a < b) ⊎ (b ≤ a)
 less_or_not a b = go (ltb a b) (ltb→lt a b) (nltb→le a b)
@@ -38,3 +38,11 @@ compare_gt a b h = go (compare a b) (leb→le a b)
     go Ordering.lt p = let e = p tt in absurd (omega arith)
     go Ordering.eq p = let e = p tt in absurd (omega arith)
     go Ordering.gt p = refl
+
+pub compare_eq : (a b : ℕ) → a ≡ b → compare a b ≡ Ordering.eq
+compare_eq a b h = go (compare a b) (subst (λ (x : ℕ). T (eqb a x)) h (eqb_refl a))
+  where
+    go : (o : Ordering) → T (compare_is_eq o) → o ≡ Ordering.eq
+    go Ordering.lt p = absurd p
+    go Ordering.eq p = refl
+    go Ordering.gt p = absurd p

@@ -1,5 +1,5 @@
 -- The kit's operations by their operands' values: which number a bit pattern is, and that a product and a sum of values are the product and the
--- sum of any fractions that the values equal. A finite x less itself is 0. Assumes nothing.
+-- sum of any fractions that the values equal. So x − x is 0 exactly where x is finite: `finite_test`. Assumes nothing.
 use mathlib.Core.Path.{◌≡◌, refl, sym, ap, ap₂, ◌∙◌, subst}
 use Prim.Native.Nat.compare
 use Prim.Native.Nat.{ℕ, zero, suc, ◌+◌, ◌-◌, ◌*◌, ◌/◌, ◌%◌, ◌^◌, ◌≤◌, ◌<◌, compare}
@@ -12,7 +12,7 @@ use lib.Dec.{T, leb, ltb, eqb, ltb→lt, nltb→le, not_T, eqb→eq}
 use lib.Arith.{lt_of_le-ne}
 use lib.Pow.{pow-add, pow_pos}
 use lib.Ieee.{Float, nan, inf, fin, Format, binary32, binary64, prec, emax, low, unlike, up, down, size}
-use lib.Ieee.{nearest, odd, units, round, neg, sum, add, sub, mul, hid, ones, top, of_fields, of_bits}
+use lib.Ieee.{nearest, odd, units, round, neg, sum, add, sub, mul, eq, hid, ones, top, of_fields, of_bits}
 use lib.Ieee.Digits.{size-le}
 use lib.Ieee.Fits.{core, round_is, down_pos, eq→eqb}
 use lib.Ieee.Bits.{cond_no}
@@ -210,3 +210,10 @@ sub_self f s m e =
     add_values f (fin s m e) (fin (not s) m e) s (m * up e) (not s) (m * up e) (down e) (down_pos e) (refl, refl) (refl, refl)
     ∙ sum_none f s (m * up e) (down e)
     ∙ round_zero f false (down e)
+
+pub finite_test : (x : Float) → eq (sub binary64 x x) (of_bits binary64 0) ≡ finite x
+unfolding sub neg add eq of_bits
+finite_test nan = refl
+finite_test (inf true) = refl
+finite_test (inf false) = refl
+finite_test (fin s m e) = ap (λ (z : Float). eq z (of_bits binary64 0)) (sub_self binary64 s m e)

@@ -30,6 +30,11 @@ settled_below m n i h = go (ltb i (lead m)) refl
     go false e =
         omega (arith, ltb-false i (lead m) e, mod-lt (i - lead m) (some_period m), mod-le (i - lead m) (period m))
 
+-- more nodes have as many, or more
+pub distinct_more : (m k n : ℕ) → k ≤ n → distinct m k ≤ distinct m n
+unfolding distinct
+distinct_more m k n h = omega arith
+
 pub distinct_few : (m n : ℕ) → distinct m n ≤ n
 unfolding distinct
 distinct_few m n = omega arith
