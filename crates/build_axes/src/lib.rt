@@ -8,7 +8,7 @@ ghost use Rattle.build_nodes.specs.NodeLists.{Room};
 ghost use Rattle.build_filling.specs.AllAxes.{cells_of, all_axes};
 
 use build_filling::fill_axes;
-use build_nodes::factor_nodes;
+use build_nodes::factor_nodes_with;
 use build_plan::Plan;
 use build_settled::distinct;
 use build_sweeps::NodeMatrices;
@@ -34,7 +34,7 @@ pub fn solve_general_thomas(
     let m = plan.m;
     let n = plan.n;
     let tables = build_tables::for_order(m);
-    factor_nodes(&tables, distinct(m, n), entries, rows, solved_c);
+    factor_nodes_with(&tables, distinct(m, n), entries, rows, solved_c);
     let nodes = NodeMatrices {
         tables: &tables,
         n,

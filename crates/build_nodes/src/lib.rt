@@ -10,15 +10,28 @@
 ghost use Rattle.std.specs.Prelude.{◌≡◌, ◌+◌, ◌*◌, ◌≤◌, ◌<◌, ◌++◌, length, drop};
 ghost use Rattle.law_lists.specs.Lists.{listed};
 ghost use Rattle.rules.specs.Solve.{matrix, node_matrix, node_factors};
-ghost use Rattle.build_products.specs.Columns.{transposed};
+ghost use Rattle.build_products.specs.Columns.{transposed, HoldsA, HoldsB, HoldsC};
 ghost use Rattle.build_nodes.specs.NodeLists.{Room, node_entries, node_rows, node_solved};
 ghost use Rattle.build_nodes.specs.Steps.{next_entry, SolvedTo};
 
 use build_forward::Factored;
 use build_tables::BlockMatrices;
 
+// The tables A, B and C of an m, kept as crates/build_tables says: all that the nodes' matrices are made of.
+// (It is no `BlockMatrices`: that has R and H too, lists that stay for good, and an m of 1 to 3 alone.)
+#[derive(Clone, Copy)]
+struct NodeTables<'a> {
+    m: usize,
+    a: &'a [f64],
+    b: &'a [f64],
+    c: &'a [f64],
+    ghost holds_a: { HoldsA m a.now },
+    ghost holds_b: { HoldsB m b.now },
+    ghost holds_c: { HoldsC m c.now },
+}
+
 // R9: row r of the matrix of an inner node past the first.
-fn node_row(tables: &BlockMatrices, r: usize, previous: &[f64], out: &mut [f64])
+fn node_row(tables: &NodeTables, r: usize, previous: &[f64], out: &mut [f64])
     requires { (r < tables.now.m)
         × (length previous.now ≡ tables.now.m * tables.now.m)
         × (length out.old ≡ tables.now.m) }
@@ -33,7 +46,7 @@ fn node_row(tables: &BlockMatrices, r: usize, previous: &[f64], out: &mut [f64])
 }
 
 // The matrix of an inner node past the first.
-fn node_matrix(tables: &BlockMatrices, previous: &[f64], out: &mut [f64])
+fn node_matrix(tables: &NodeTables, previous: &[f64], out: &mut [f64])
     requires { (length previous.now ≡ tables.now.m * tables.now.m)
         × (length out.old ≡ tables.now.m * tables.now.m) }
     ensures { let m = tables.now.m in out.new ≡ matrix m m (next_entry m (transposed m previous.now)) }
@@ -46,7 +59,7 @@ fn node_matrix(tables: &BlockMatrices, previous: &[f64], out: &mut [f64])
 }
 
 // R9: the matrix of inner node i. Past the first it takes solved C of the node before.
-fn node_entries(tables: &BlockMatrices, i: usize, solved: &[f64], out: &mut [f64])
+fn node_entries(tables: &NodeTables, i: usize, solved: &[f64], out: &mut [f64])
     requires { SolvedTo tables.now.m i solved.now × (length out.old ≡ tables.now.m * tables.now.m) }
     ensures { out.new ≡ node_matrix tables.now.m i }
 {
@@ -63,7 +76,7 @@ fn node_entries(tables: &BlockMatrices, i: usize, solved: &[f64], out: &mut [f64
 // (The node's place and the list of all nodes stay two parameters: the place is another at each call, so a struct of both would be made
 // anew for each node. The rows stay a list of numbers, as crates/build_pivots says.)
 fn factor_node(
-    tables: &BlockMatrices,
+    tables: &NodeTables,
     i: usize,
     entries: &mut [f64],
     rows: &mut [usize],
@@ -88,8 +101,42 @@ fn factor_node(
 }
 
 // The inner nodes 0 to n − 1, one after the other. (n stays a parameter: it is no length, since the lists may have room for more than n.
-// The rows stay a list of numbers, as crates/build_pivots says.)
+// The rows stay a list of numbers, as crates/build_pivots says. The three tables stay loose, for any m: a caller may have them without the
+// others that `BlockMatrices` holds.)
 pub fn factor_nodes(
+    m: usize,
+    n: usize,
+    a: &[f64],
+    b: &[f64],
+    c: &[f64],
+    entries: &mut [f64],
+    rows: &mut [usize],
+    solved: &mut [f64],
+)
+    requires { HoldsA m a.now
+        × HoldsB m b.now
+        × HoldsC m c.now
+        × Room m n entries.old rows.old solved.old }
+    ensures { (entries.new ≡ node_entries m n ++ drop (n * (m * m)) entries.old)
+        × (rows.new ≡ node_rows m n ++ drop (n * m) rows.old)
+        × (solved.new ≡ node_solved m n ++ drop (n * (m * m)) solved.old) }
+{
+    let tables = NodeTables { m, a, b, c };
+    for i in 0..n {
+        let at = i * (m * m);
+        let row = i * m;
+        factor_node(
+            &tables,
+            i,
+            &mut entries[at..at + m * m],
+            &mut rows[row..row + m],
+            solved,
+        );
+    }
+}
+
+// The same, with the tables of an order.
+pub fn factor_nodes_with(
     tables: &BlockMatrices,
     n: usize,
     entries: &mut [f64],
@@ -102,16 +149,7 @@ pub fn factor_nodes(
         × (rows.new ≡ node_rows m n ++ drop (n * m) rows.old)
         × (solved.new ≡ node_solved m n ++ drop (n * (m * m)) solved.old) }
 {
-    let m = tables.m;
-    for i in 0..n {
-        let at = i * (m * m);
-        let row = i * m;
-        factor_node(
-            tables,
-            i,
-            &mut entries[at..at + m * m],
-            &mut rows[row..row + m],
-            solved,
-        );
-    }
+    factor_nodes(
+        tables.m, n, tables.a, tables.b, tables.c, entries, rows, solved,
+    );
 }

@@ -3,10 +3,26 @@
 #![tactic(auto)]
 
 ghost use Rattle.std.specs.Prelude.{◌≡◌, suc, ◌+◌, ◌*◌, ◌<◌, length};
-ghost use Rattle.rules.specs.Floats.{◌⊗◌, ◌⊕◌, ◌⊖◌};
+ghost use Rattle.rules.specs.Floats.{◌⊗◌, ◌⊕◌, ◌⊖◌, ◌!◌};
 ghost use Rattle.law_lists.specs.Lists.{listed};
 ghost use Rattle.rules.specs.Solve.{entry};
 ghost use Rattle.rules.specs.Build.{of_axis};
+
+// B11: waypoint p of an axis: "Waypoints are column-major, axes by points".
+pub fn waypoint(axes: usize, waypoints: &[f64], axis: usize, p: usize) -> f64
+    requires { p * axes + axis < length waypoints.now }
+    ensures { result ≡ waypoints.now ! (p * axes + axis) }
+{
+    waypoints[p * axes + axis]
+}
+
+// R1: "dy = right minus left waypoint", of segment i.
+pub fn dy(axes: usize, waypoints: &[f64], axis: usize, i: usize) -> f64
+    requires { (axis < axes) × (suc i * axes + axis < length waypoints.now) }
+    ensures { result ≡ waypoints.now ! (suc i * axes + axis) ⊖ waypoints.now ! (i * axes + axis) }
+{
+    waypoint(axes, waypoints, axis, i + 1) - waypoint(axes, waypoints, axis, i)
+}
 
 // B11: the waypoints of one axis, among those of all: "Waypoints are column-major, axes by points".
 #[derive(Clone, Copy)]
@@ -23,7 +39,7 @@ impl<'a> AxisWaypoints<'a> {
         requires { p * self.axes + self.axis < length self.waypoints.now }
         ensures { result ≡ of_axis self.entry.axes self.entry.waypoints.now self.entry.axis p }
     {
-        self.waypoints[p * self.axes + self.axis]
+        waypoint(self.axes, self.waypoints, self.axis, p)
     }
 
     // R1: "dy = right minus left waypoint", of segment i.
@@ -33,7 +49,7 @@ impl<'a> AxisWaypoints<'a> {
             ≡ of_axis self.entry.axes self.entry.waypoints.now self.entry.axis (suc i)
             ⊖ of_axis self.entry.axes self.entry.waypoints.now self.entry.axis i }
     {
-        self.waypoint(i + 1) - self.waypoint(i)
+        dy(self.axes, self.waypoints, self.axis, i)
     }
 }
 

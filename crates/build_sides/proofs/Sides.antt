@@ -17,33 +17,32 @@ use Rattle.law_lists.specs.Lists.{listed}
 use Rattle.rules.specs.Tables.{A}
 use Rattle.rules.specs.Solve.{entry, times, minus, solve, node_factors}
 use Rattle.rules.specs.Build.{dy, right_side, bounded_side, solved_side}
-use Rattle.build_products.specs.Columns.{transposed}
+use Rattle.build_products.specs.Columns.{transposed, HoldsA, HoldsC, HoldsR}
 use Rattle.build_products.proofs.Transposed.{columns_are}
-use Rattle.build_tables.specs.declared.BlockMatrices.{BlockMatrices}
 use Rattle.build_sides.specs.Node.{full_side}
 
-module _ (t : BlockMatrices) where
+module _ {m : ℕ} {r a c : List Float} (holds_r : HoldsR m r) (holds_a : HoldsA m a) (holds_c : HoldsC m c) where
   -- the right side from the dy before and the dy after
   abbrev pub right : Float → Float → List Float
-  right before after = listed t.m (λ k. entry 2 t.r.now k 0 ⊗ before ⊕ entry 2 t.r.now k 1 ⊗ after)
+  right before after = listed m (λ k. entry 2 r k 0 ⊗ before ⊕ entry 2 r k 1 ⊗ after)
 
   -- less a matrix, kept by columns, times u
   abbrev pub less : List Float → List Float → List Float → List Float
-  less a u v = minus t.m v (times t.m (transposed t.m a) u)
+  less columns u v = minus m v (times m (transposed m columns) u)
 
   -- at_first and at_last are the code's tests
   pub bounded_is : (n : ℕ) (w start end : List Float) (i : ℕ) (before after : Float) (at_first at_last : Bool)
       → eqb i 0 ≡ at_first → eqb (i + 1) n ≡ at_last → dy w i ≡ before → dy w (suc i) ≡ after
-      → (let first = cond at_first (less t.a.now start (right before after)) (right before after) in
-      cond at_last (less t.c.now end first) first ≡ bounded_side t.m n w start end i)
+      → (let first = cond at_first (less a start (right before after)) (right before after) in
+      cond at_last (less c end first) first ≡ bounded_side m n w start end i)
   unfolding bounded_side right_side
   bounded_is n w start end i before after at_first at_last x y p q =
-      rw (← x, ← y, columns_are t.holds_a, columns_are t.holds_c, add-one, ← p, ← q, t.holds_r.is)
+      rw (← x, ← y, columns_are holds_a, columns_are holds_c, add-one, ← p, ← q, holds_r.is)
 
   -- what is subtracted past the first node
-  pub past_first_is : (n : ℕ) (w start end previous : List Float) (i : ℕ) → 0 < i → previous ≡ solved_side t.m n w start end (i - 1)
-      → less t.a.now previous (bounded_side t.m n w start end i) ≡ full_side t.m n w start end i
-  past_first_is n w start end previous i h e = rw (columns_are t.holds_a, lt-ltb 0 i h, e)
+  pub past_first_is : (n : ℕ) (w start end previous : List Float) (i : ℕ) → 0 < i → previous ≡ solved_side m n w start end (i - 1)
+      → less a previous (bounded_side m n w start end i) ≡ full_side m n w start end i
+  past_first_is n w start end previous i h e = rw (columns_are holds_a, lt-ltb 0 i h, e)
 
 -- how long the boundary numbers are
 pub first_long : (ends : BoundaryNumbers) → length (first_of ends.tables.now.m ends.numbers.now) ≡ ends.tables.now.m

@@ -15,7 +15,7 @@ use build_plan::BoundaryNumbers;
 use build_products::subtract_product;
 use build_rhs::AxisWaypoints;
 use build_settled::settled;
-use build_sides::{InnerNode, full_side};
+use build_sides::{InnerNode, full_side_with};
 use build_tables::BlockMatrices;
 
 // What all axes of a build with n inner nodes share: the tables, and of the nodes' matrices that differ, one after the other, the
@@ -132,7 +132,7 @@ impl Axis<'_, '_> {
                 dy_prev,
                 dy_next,
             };
-            full_side(ends, node, solved, side);
+            full_side_with(ends, node, solved, side);
             nodes.solve_node(i, side, solved);
             dy_prev = dy_next;
         }

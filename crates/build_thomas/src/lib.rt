@@ -8,7 +8,7 @@ ghost use Rattle.build_sweeps.specs.OfAxis.{inner_length, coefficients_of};
 ghost use Rattle.build_thomas.specs.Row.{axis_cells, segment_of};
 
 use build_plan::BoundaryNumbers;
-use build_segments::{node_numbers, write_segment_coeffs};
+use build_segments::{numbers_of_node, write_segment_coeffs_with};
 use build_sweeps::Axis;
 
 // B14: the n + 1 segments, from the numbers of the inner nodes. (It stays a function of its own: it prints nothing, and fills numbers.)
@@ -25,12 +25,12 @@ fn write_segments(axis: &Axis, solved: &[f64], chunk: &mut [f64])
     let width = 2 * ends.tables.m + 2;
     for i in 0..ends.n + 1 {
         let at = i * width;
-        write_segment_coeffs(
+        write_segment_coeffs_with(
             ends.tables,
             points.waypoint(i),
             points.dy(i),
-            node_numbers(ends, solved, i),
-            node_numbers(ends, solved, i + 1),
+            numbers_of_node(ends, solved, i),
+            numbers_of_node(ends, solved, i + 1),
             &mut chunk[at..at + width],
         );
     }

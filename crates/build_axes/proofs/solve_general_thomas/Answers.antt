@@ -15,7 +15,7 @@ invariant_of-nodes c =
     let few : t.m ≤ 3 = rw of_m p.few in
     let is : c.distinct.result ≡ distinct t.m p.n = rw of_m c.distinct.ensures in
     let room : Room t.m c.distinct.result a.entries.now a.rows.now a.solved_c.now = room_for is (rw of_m c.requires.1) in
-    let (entries, rows, columns) = c.factor_nodes.ensures in
+    let (entries, rows, columns) = c.factor_nodes_with.ensures in
     record {
       few_nodes = p.few_nodes;
       factors = node_factors_lem some few is room t.holds_b.sized entries rows;

@@ -9,8 +9,8 @@ use Rattle.build_nodes.proofs.factor_nodes.Goals as goal
 
 pub loop-i-init : goal.loop-i-init
 loop-i-init c =
-    let tables = c.args.tables.now in
-    (none _ _ _ (length_entries tables.m tables.holds_b.sized), none _ _ _ (length-node_rows tables.m), none _ _ _ (length_solved tables.m))
+    let m = c.args.m in
+    (none _ _ _ (length_entries m c.requires.1.sized), none _ _ _ (length-node_rows m), none _ _ _ (length_solved m))
 
 -- the i-th of n parts is inside
 inside : (k i n : ℕ) → i < n → (i + 1) * k ≤ n * k
@@ -19,10 +19,10 @@ inside k i n h = omega (arith, part_inside k h, next_part k i)
 pub factor_node-requires : goal.factor_node-requires
 unfolding node_solved
 factor_node-requires c =
-    let m = c.args.tables.now.m in
+    let m = c.args.m in
     let i = c.loop-i.i in
-    let entries = inside (m * m) i c.args.n c.loop-i-test.true in
-    let rows = inside m i c.args.n c.loop-i-test.true in
+    let entries = inside (m * m) i c.args.n (omega arith) in
+    let rows = inside m i c.args.n (omega arith) in
     let solved = c.loop-i.invariant.2 in (
       lent_length (i * (m * m)) (m * m) c.loop-i.entries (omega (arith, next_part (m * m) i)),
       lent_length (i * m) m c.loop-i.rows (omega (arith, next_part m i)),
@@ -33,10 +33,10 @@ factor_node-requires c =
 pub loop-i-preserved : goal.loop-i-preserved
 unfolding node_solved
 loop-i-preserved c =
-    let m = c.args.tables.now.m in
+    let m = c.args.m in
     let i = c.loop-i.i in
-    let entries = inside (m * m) i c.args.n c.loop-i-test.true in
-    let rows = inside m i c.args.n c.loop-i-test.true in
+    let entries = inside (m * m) i c.args.n (omega arith) in
+    let rows = inside m i c.args.n (omega arith) in
     let made = c.factor_node.ensures in (
       step c.loop-i.invariant.0 made.0 (omega arith),
       step c.loop-i.invariant.1 made.1 (omega arith),

@@ -7,13 +7,14 @@ use Rattle.build_segments.proofs.node_numbers.Goals as goal
 
 pub returns-then-i-eq0 : goal.returns-then-i-eq0
 unfolding node_part
-returns-then-i-eq0 c = rw c.if-i-eq0.true c.first.ensures
+returns-then-i-eq0 c = rw c.if-i-eq0.true
 
-pub returns-then-ends-i : goal.returns-then-ends-i
-returns-then-ends-i c = let a = c.args in c.last.ensures ∙ sym (last_part a.ends.tables.now.m a.ends.n a.ends.numbers.now a.solved.now a.i c.if-ends-i.true)
+pub returns-then-n-i : goal.returns-then-n-i
+returns-then-n-i c =
+    let a = c.args in
+    part_size a.m a.m a.boundary.now ∙ sym (last_part a.m a.n a.boundary.now a.solved.now a.i c.if-n-i.true)
 
 pub returns : goal.returns
 returns c =
     let a = c.args in
-    part_size ((a.i - 1) * a.ends.tables.now.m) a.ends.tables.now.m a.solved.now
-    ∙ sym (inner_part a.ends.tables.now.m a.ends.n a.ends.numbers.now a.solved.now a.i (omega arith) (omega arith))
+    part_size ((a.i - 1) * a.m) a.m a.solved.now ∙ sym (inner_part a.m a.n a.boundary.now a.solved.now a.i (omega arith) (omega arith))

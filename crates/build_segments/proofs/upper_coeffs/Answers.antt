@@ -12,11 +12,12 @@ loop-i-init c = none _ _
 pub loop-i-preserved : goal.loop-i-preserved
 loop-i-preserved c =
     let a = c.args in
-    let t = a.tables.now in
+    let h = a.h_coeff.now in
     let i = c.loop-i.i in
-    let width = 1 + 2 * t.m in
-    let row : i * width + width ≤ length t.h_coeff.now = rw (rows_long t.holds_h) (part_inside width (omega arith)) in
+    let width = 1 + 2 * a.m in
+    let holds = c.requires.1 in
+    let row : i * width + width ≤ length h = rw (rows_long holds) (part_inside width (omega arith)) in
     step c.loop-i.invariant
-    (rw (read t.h_coeff.now (i * width) (omega arith), c.dot-dot_u0.ensures, c.dot-dot_u1.ensures, c.requires.0, c.requires.1)
-    (upper_is t.m a.dy t.h_coeff.now a.u0.now a.u1.now i t.holds_h.is))
+    (rw (read h (i * width) (omega arith), c.dot-dot_u0.ensures, c.dot-dot_u1.ensures, c.requires.2, c.requires.3)
+    (upper_is a.m a.dy h a.u0.now a.u1.now i holds.is))
     (omega arith)

@@ -4,4 +4,4 @@ use Rattle.rules.proofs.FilledList.{Filled}
 use Rattle.build_segments.proofs.upper_coeffs.Given as goal
 
 abbrev pub invariant-loop-i : goal.invariant-loop-i
-invariant-loop-i l = Filled l.i (upper_coefficient l.tables.m l.dy l.u0 l.u1) l.initial.out l.out
+invariant-loop-i l = Filled l.i (upper_coefficient l.m l.dy l.u0 l.u1) l.initial.out l.out

@@ -6,4 +6,4 @@ pub returns : goal.returns
 unfolding segment_coefficients
 returns c =
     let a = c.args in
-    rw (c.copy_few.ensures, c.upper_coeffs.ensures) (assembled a.tables.now.m a.y a.out.now a.u0.now _ c.requires.2 c.requires.0)
+    rw (c.copy_few.ensures, c.upper_coeffs.ensures) (assembled a.m a.y a.out.now a.u0.now _ c.requires.4 c.requires.2)

@@ -26,16 +26,16 @@ module _ (a : Axis) where
 pub loop-i-init : goal.loop-i-init
 loop-i-init c = none _ _ _ (λ j. length-segment _ _ _ _ _ (node_length c.args.axis.now c.args.solved.now c.requires.0 j))
 
-pub write_segment_coeffs-requires : goal.write_segment_coeffs-requires
-write_segment_coeffs-requires c =
+pub write_segment_coeffs_with-requires : goal.write_segment_coeffs_with-requires
+write_segment_coeffs_with-requires c =
     let a = c.args.axis.now in
     let width = 2 * a.nodes.now.tables.now.m + 2 in
     let i = c.loop-i.i in
     let chunk : List Float = c.args.chunk.now in
     let room : i * width + width ≤ length c.loop-i.chunk =
     omega (arith, inside a chunk c.requires.1 i (omega arith), kept c.loop-i.invariant) in (
-      rw c.node_numbers.ensures (node_length a c.args.solved.now c.requires.0 i),
-      rw c.node_numbers-in-loop-i.ensures (node_length a c.args.solved.now c.requires.0 (i + 1)),
+      rw c.numbers_of_node.ensures (node_length a c.args.solved.now c.requires.0 i),
+      rw c.numbers_of_node-in-loop-i.ensures (node_length a c.args.solved.now c.requires.0 (i + 1)),
       rw part_size (part_length (i * width) width c.loop-i.chunk room),
     )
 
@@ -46,11 +46,11 @@ loop-i-preserved c =
     let i = c.loop-i.i in
     step c.loop-i.invariant
     (rw (
-      c.write_segment_coeffs.ensures,
+      c.write_segment_coeffs_with.ensures,
       c.waypoint.ensures,
       c.dy.ensures,
-      c.node_numbers.ensures,
-      c.node_numbers-in-loop-i.ensures,
+      c.numbers_of_node.ensures,
+      c.numbers_of_node-in-loop-i.ensures,
       points_at n a.points i (omega arith),
       points_dy n a.points i (omega arith),
       add-one,

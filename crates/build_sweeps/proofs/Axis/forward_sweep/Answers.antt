@@ -30,7 +30,7 @@ loop-i-preserved c =
     let inv = c.loop-i.invariant in
     let w : List Float = points_of n self.points in
     let next : dy w (suc i) ≡ c.dy-dy_next.result = rw add-one at (points_dy n self.points (i + 1) (omega arith) ∙ sym c.dy-dy_next.ensures) in
-    let side = c.full_side.ensures w inv.before next (λ q. part_at inv.done (i - 1) (omega arith)) in
+    let side = c.full_side_with.ensures w inv.before next (λ q. part_at inv.done (i - 1) (omega arith)) in
     record {
       done =
           rw c.solve_node.ensures
