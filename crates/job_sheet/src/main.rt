@@ -2,9 +2,28 @@
 // What it prints is sheet_print::print_sheet's to say, whatever the bytes are.
 #![tactic(auto)]
 
+ghost use Rattle.std.specs.Prelude.{◌≤◌, length, IfOk};
+
 use sheet_print::{MOST_BYTES, MOST_CELLS};
 use std::io;
-use std::io::{Cursor, Read};
+use std::io::Read;
+
+// Reads until a list is full or the input ends, and returns how many bytes it put at the list's start. (The loop stays beside std's
+// `io::copy`, which tries an interrupted read again: here it is the program's error, as any other that fails. `io::copy` also reads
+// through a second buffer, which it sets to zero for each read.)
+fn read_full<R: Read>(reader: &mut R, list: &mut [u8]) -> io::Result<usize>
+    ensures { IfOk result (λ n. n ≤ length list.new) }
+{
+    let mut done = 0;
+    while done < list.len() {
+        let n = reader.read(&mut list[done..])?;
+        if n == 0 {
+            return Ok(done);
+        }
+        done += n;
+    }
+    Ok(done)
+}
 
 // (The arrays are made and lent apart: the prover knows the length of one that is a parameter, and counts that of one just made.)
 fn print<P: Print>(
@@ -23,7 +42,6 @@ fn main(rt: HostRuntime) -> io::Result<()> {
     let mut text = [0; 32769];
     let mut coeffs = [0.0; MOST_CELLS];
     let mut out = [0; MOST_BYTES];
-    let copied = io::copy(&mut rt.stdin().take(32769), &mut Cursor::new(&mut text[..]))?;
-    let n = text.len().min(copied as usize);
+    let n = read_full(&mut rt.stdin(), &mut text)?;
     print(&rt, &text[..n], &mut coeffs, &mut out)
 }

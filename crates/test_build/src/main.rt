@@ -15,7 +15,7 @@ fn built(input: SplineInput, buffer: &mut [f64]) -> Result<PathRecord, PathError
 }
 
 // (After a part of an array was lent, only a parameter's type tells the prover its length again.)
-fn judged<R: Read + Drop>(
+fn judged<R: Read>(
     trial: &mut Trial<R>,
     answer: Result<PathRecord, PathError>,
     buffer: &[f64; 16416],
@@ -26,7 +26,7 @@ fn judged<R: Read + Drop>(
 }
 
 // There is room for a buffer of 16400 cells.
-fn call<R: Read + Drop>(trial: &mut Trial<R>) {
+fn call<R: Read>(trial: &mut Trial<R>) {
     let given = test_given::next(&mut trial.input);
     let lent = trial.input.count().min(16400);
     let mut numbers = [0.0; 2400];

@@ -26,12 +26,12 @@ pub fn fill(cells: &mut [f64]) {
 
 // A program's input, and what was seen so far.
 #[derive(Drop)]
-pub struct Trial<R: Read + Drop> {
+pub struct Trial<R: Read> {
     pub input: Input<R>,
     pub seen: Seen,
 }
 
-impl<R: Read + Drop> Trial<R> {
+impl<R: Read> Trial<R> {
     // Something is as expected, or is not.
     fn judged(&mut self, is_like: bool) {
         self.seen.unlike = self.seen.unlike.wrapping_add(u64::from(!is_like));

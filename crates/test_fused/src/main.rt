@@ -8,7 +8,7 @@ use std::io::Read;
 use test_common::seen::{Trial, replay};
 use test_input::bits;
 
-fn step<R: Read + Drop>(trial: &mut Trial<R>) {
+fn step<R: Read>(trial: &mut Trial<R>) {
     let a = trial.input.cell();
     let b = trial.input.cell();
     let c = trial.input.cell();
@@ -17,7 +17,7 @@ fn step<R: Read + Drop>(trial: &mut Trial<R>) {
     trial.called(bits::same(result, expected));
 }
 
-fn family<R: Read + Drop>(trial: &mut Trial<R>) {
+fn family<R: Read>(trial: &mut Trial<R>) {
     for _ in 0..trial.input.count() {
         step(trial);
     }

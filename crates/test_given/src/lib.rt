@@ -2,6 +2,8 @@
 // and record beside those that stand behind it. The first lines of crates/test_build/stdin say how a call is written.
 #![tactic(auto)]
 
+ghost use Rattle.std.specs.Prelude.{◌≤◌};
+
 use rules::{BoundaryState, PathError, PathParam, PathRecord, SplineConfig, SplineInput};
 use std::io::Read;
 use test_common::seen::Trial;
@@ -9,7 +11,7 @@ use test_input::read::Input;
 use tezvorup_records::RawAnswer;
 
 // Kinds: 0 none, 1 given, 2 given per unit of s.
-fn next_state<R: Read + Drop>(input: &mut Input<R>) -> Option<BoundaryState> {
+fn next_state<R: Read>(input: &mut Input<R>) -> Option<BoundaryState> {
     let kind = input.count();
     let rows = input.count();
     let columns = input.count();
@@ -23,7 +25,7 @@ fn next_state<R: Read + Drop>(input: &mut Input<R>) -> Option<BoundaryState> {
     })
 }
 
-fn next_config<R: Read + Drop>(input: &mut Input<R>) -> SplineConfig {
+fn next_config<R: Read>(input: &mut Input<R>) -> SplineConfig {
     SplineConfig {
         order: input.count(),
         s_min: PathParam(input.float()),
@@ -32,6 +34,25 @@ fn next_config<R: Read + Drop>(input: &mut Input<R>) -> SplineConfig {
         start_state: next_state(input),
         end_state: next_state(input),
     }
+}
+
+// Where waypoints, start and end lie in one list, one behind the other: the start's numbers begin at `start`, the end's at `end`, and
+// behind `past` is nothing.
+#[derive(Clone, Copy)]
+pub struct Lists {
+    pub start: usize,
+    pub end: usize,
+    pub past: usize,
+}
+
+// The same, where the list has so many numbers. (Nothing is cut off, but the prover does not know.)
+pub fn within(lists: Lists, all: usize) -> Lists
+    ensures { (result.start ≤ result.end) × (result.end ≤ result.past) × (result.past ≤ all) }
+{
+    let past = lists.past.min(all);
+    let end = lists.end.min(past);
+    let start = lists.start.min(end);
+    Lists { start, end, past }
 }
 
 // What a call is given, but for the numbers of its lists: how many each has.
@@ -46,7 +67,7 @@ pub struct Given {
 }
 
 // There is room for 2336 waypoints and for 32 numbers of a state. What is more is cut off.
-pub fn next<R: Read + Drop>(input: &mut Input<R>) -> Given {
+pub fn next<R: Read>(input: &mut Input<R>) -> Given {
     Given {
         config: next_config(input),
         points: input.count(),
@@ -58,31 +79,35 @@ pub fn next<R: Read + Drop>(input: &mut Input<R>) -> Given {
 }
 
 impl Given {
+    // (The sums don't saturate, since `next` cuts off what is more, but the prover does not know.)
+    fn lists(&self) -> Lists {
+        let start = self.waypoints;
+        let end = start.saturating_add(self.start);
+        let past = end.saturating_add(self.end);
+        Lists { start, end, past }
+    }
+
     // How many numbers the three lists have together.
     pub fn count(&self) -> usize {
-        self.waypoints
-            .saturating_add(self.start)
-            .saturating_add(self.end)
+        self.lists().past
     }
 
     // With the numbers: waypoints, start and end, one behind the other.
     pub fn with<'a>(&self, numbers: &'a [f64]) -> SplineInput<'a> {
-        let (waypoints, rest) = numbers.split_at(self.waypoints.min(numbers.len()));
-        let (start, rest) = rest.split_at(self.start.min(rest.len()));
-        let end = &rest[..self.end.min(rest.len())];
+        let lists = within(self.lists(), numbers.len());
         SplineInput {
             config: self.config,
             points: self.points,
             axes: self.axes,
-            waypoints,
-            start,
-            end,
+            waypoints: &numbers[..lists.start],
+            start: &numbers[lists.start..lists.end],
+            end: &numbers[lists.end..lists.past],
         }
     }
 }
 
 // A call more, its number and its record, which is what C gets of the answer: all zero with mode Error where it is refused.
-pub fn answered<R: Read + Drop>(trial: &mut Trial<R>, answer: Result<PathRecord, PathError>) {
+pub fn answered<R: Read>(trial: &mut Trial<R>, answer: Result<PathRecord, PathError>) {
     let told = RawAnswer::from(answer);
     let path = told.path;
     trial.answered(told.number);

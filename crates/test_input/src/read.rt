@@ -42,6 +42,9 @@ impl Name {
     }
 }
 
+// That of the least i64: 2^63.
+const MIN_MAGNITUDE: u64 = 0x8000_0000_0000_0000;
+
 // A number as it is read. (The minus stays a flag: it is asked once, in `signed`, where an enum of two signs would be matched.)
 #[derive(Clone, Copy, Default)]
 struct Number {
@@ -58,8 +61,12 @@ fn digit(c: u8) -> u64 {
 }
 
 impl Number {
-    // What stands below '0', as a space and a minus do, is no digit.
-    fn with<const RADIX: u64>(self, c: u8) -> Number {
+    // What stands below '0', as a space and a minus do, is no digit. (The remainder is by 2^64 / RADIX, rounded up, so that the product
+    // fits. It stays beside `wrapping_mul`, which reads other numbers where there are more digits than fit, from 18446744073709551620 on:
+    // each input is to stay the trial that it is.)
+    fn with<const RADIX: u64>(self, c: u8) -> Number
+        requires { 0 < RADIX }
+    {
         if c < b'0' {
             return Number {
                 magnitude: self.magnitude,
@@ -67,35 +74,44 @@ impl Number {
             };
         }
         Number {
-            magnitude: self.magnitude.wrapping_mul(RADIX).wrapping_add(digit(c)),
+            magnitude: (self.magnitude % u64::MAX.div_ceil(RADIX) * RADIX).wrapping_add(digit(c)),
             is_negative: self.is_negative,
         }
     }
 
     // The number whose digits these are.
-    fn of<const RADIX: u64>(digits: &[u8]) -> Number {
-        digits
-            .iter()
-            .fold(Number::default(), |n, &c| n.with::<RADIX>(c))
+    fn of<const RADIX: u64>(digits: &[u8]) -> Number
+        requires { 0 < RADIX }
+    {
+        digits.iter().fold(
+            Number::default(),
+            |n, &c|
+                requires { 0 < RADIX }
+            { n.with::<RADIX>(c) },
+        )
     }
 
+    // The least i64 as it is written; of any other number the remainder by 2^63, with its sign. (It stays beside `cast_signed` and
+    // `wrapping_neg`, which read other numbers where one is no i64, as 9223372036854775808 is none; the reason is that above.)
     fn signed(self) -> i64 {
-        let magnitude = self.magnitude.cast_signed();
-        if self.is_negative {
-            magnitude.wrapping_neg()
+        let rest = (self.magnitude % MIN_MAGNITUDE) as i64;
+        if !self.is_negative {
+            rest
+        } else if self.magnitude == MIN_MAGNITUDE {
+            i64::MIN
         } else {
-            magnitude
+            -rest
         }
     }
 }
 
 // What the programs read from.
 #[derive(Drop)]
-pub struct Input<R: Read + Drop> {
+pub struct Input<R: Read> {
     pub reader: R,
 }
 
-impl<R: Read + Drop> Input<R> {
+impl<R: Read> Input<R> {
     pub fn name(&mut self) -> Name {
         let mut text = [0; 68];
         let length = full(&mut self.reader, &mut text);
@@ -104,7 +120,8 @@ impl<R: Read + Drop> Input<R> {
 
     // A line of so many characters, its end among them: the number whose digits stand in it from a place on.
     fn digits<const WIDTH: usize, const RADIX: u64>(&mut self, from: usize) -> Number
-        requires { (from < WIDTH) × (WIDTH < 100) }
+        requires inside { (from < WIDTH) × (WIDTH < 100) }
+        requires radix { 0 < RADIX }
     {
         let mut line = [0; WIDTH];
         full(&mut self.reader, &mut line);

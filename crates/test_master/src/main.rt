@@ -18,7 +18,7 @@ struct Lengths {
 }
 
 // There is room for 300 waypoints, 32 numbers of a state and 2100 of a table. What is more is cut off.
-fn next_lengths<R: Read + Drop>(trial: &mut Trial<R>) -> Lengths {
+fn next_lengths<R: Read>(trial: &mut Trial<R>) -> Lengths {
     Lengths {
         waypoints: trial.input.count().min(300),
         start: trial.input.count().min(32),
@@ -46,7 +46,7 @@ fn check(order: usize, n: Lengths, numbers: &[i64]) -> u32 {
 }
 
 // A change: a place among the numbers, what stands there for this one check, and the answer.
-fn changed<R: Read + Drop>(trial: &mut Trial<R>, order: usize, n: Lengths, numbers: &mut [i64]) {
+fn changed<R: Read>(trial: &mut Trial<R>, order: usize, n: Lengths, numbers: &mut [i64]) {
     let place = trial.input.natural();
     let there = trial.input.integer();
     if numbers.len() <= place {
@@ -60,7 +60,7 @@ fn changed<R: Read + Drop>(trial: &mut Trial<R>, order: usize, n: Lengths, numbe
     trial.called(answer as usize == expected);
 }
 
-fn set<R: Read + Drop>(trial: &mut Trial<R>) {
+fn set<R: Read>(trial: &mut Trial<R>) {
     let order = trial.input.count();
     let n = next_lengths(trial);
     let mut numbers = [0; 2464];

@@ -9,7 +9,7 @@ use std::io::Read;
 use test_common::seen::{Trial, replay};
 use test_input::read::Input;
 
-fn next_record<R: Read + Drop>(input: &mut Input<R>) -> NumberReading {
+fn next_record<R: Read>(input: &mut Input<R>) -> NumberReading {
     NumberReading {
         start: input.natural(),
         next: input.natural(),
@@ -21,12 +21,12 @@ fn next_record<R: Read + Drop>(input: &mut Input<R>) -> NumberReading {
 
 // What is kept is compared with the next record. (Here and below it stays a parameter beside the trial: it is handed on from piece to
 // piece by value, which is what is tried, and the trial outlives it.)
-fn keeps<R: Read + Drop>(trial: &mut Trial<R>, kept: NumberReading, expected: NumberReading) {
+fn keeps<R: Read>(trial: &mut Trial<R>, kept: NumberReading, expected: NumberReading) {
     trial.called(kept == expected);
 }
 
 // What the record says is compared with the next three numbers. (It stays a parameter, as above.)
-fn says<R: Read + Drop>(trial: &mut Trial<R>, kept: NumberReading) {
+fn says<R: Read>(trial: &mut Trial<R>, kept: NumberReading) {
     let said = number::finish(kept);
     let expected = trial.input.natural();
     trial.called(said.number as usize == expected);
@@ -37,11 +37,7 @@ fn says<R: Read + Drop>(trial: &mut Trial<R>, kept: NumberReading) {
 }
 
 // A piece. (What is kept stays a parameter, as above.)
-fn goes_on<R: Read + Drop>(
-    trial: &mut Trial<R>,
-    kept: NumberReading,
-    bytes: &[u8],
-) -> NumberReading {
+fn goes_on<R: Read>(trial: &mut Trial<R>, kept: NumberReading, bytes: &[u8]) -> NumberReading {
     let kept = number::go_on(kept, bytes);
     let expected = next_record(&mut trial.input);
     keeps(trial, kept, expected);
@@ -50,7 +46,7 @@ fn goes_on<R: Read + Drop>(
 }
 
 // A piece has at most 64 bytes; what is more is cut off. A line's end stands behind it. (What is kept stays a parameter, as above.)
-fn piece<R: Read + Drop>(trial: &mut Trial<R>, kept: NumberReading) -> NumberReading {
+fn piece<R: Read>(trial: &mut Trial<R>, kept: NumberReading) -> NumberReading {
     let mut line = [0; 64];
     let mut end = [0; 1];
     let count = trial.input.count();
@@ -60,7 +56,7 @@ fn piece<R: Read + Drop>(trial: &mut Trial<R>, kept: NumberReading) -> NumberRea
 }
 
 // A record that is begun at its start, or one as it is given.
-fn begin<R: Read + Drop>(trial: &mut Trial<R>) -> NumberReading {
+fn begin<R: Read>(trial: &mut Trial<R>) -> NumberReading {
     let is_begun = trial.input.count() != 0;
     let given = next_record(&mut trial.input);
     if is_begun {
@@ -71,7 +67,7 @@ fn begin<R: Read + Drop>(trial: &mut Trial<R>) -> NumberReading {
     given
 }
 
-fn trial<R: Read + Drop>(trial: &mut Trial<R>) {
+fn trial<R: Read>(trial: &mut Trial<R>) {
     let mut kept = begin(trial);
     for _ in 0..trial.input.count() {
         kept = piece(trial, kept);

@@ -8,7 +8,7 @@ use std::io::Read;
 use test_common::seen::{Trial, replay};
 
 // The cells are a number, and may be as many as no buffer has.
-fn call<R: Read + Drop>(trial: &mut Trial<R>) {
+fn call<R: Read>(trial: &mut Trial<R>) {
     let given = test_given::next(&mut trial.input);
     let cells = trial.input.count();
     let mut numbers = [0.0; 2400];

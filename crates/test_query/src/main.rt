@@ -16,7 +16,7 @@ use test_common::seen;
 use test_common::seen::{Trial, replay};
 use test_input::read::Input;
 
-fn next_path<R: Read + Drop>(input: &mut Input<R>) -> PathRecord {
+fn next_path<R: Read>(input: &mut Input<R>) -> PathRecord {
     PathRecord {
         order: input.count(),
         segments: input.count(),
@@ -28,7 +28,7 @@ fn next_path<R: Read + Drop>(input: &mut Input<R>) -> PathRecord {
     }
 }
 
-fn next_lengths<R: Read + Drop>(input: &mut Input<R>) -> Lengths {
+fn next_lengths<R: Read>(input: &mut Input<R>) -> Lengths {
     Lengths {
         q: input.small(),
         dq: input.small(),
@@ -67,7 +67,7 @@ struct Query {
     written: Lengths,
 }
 
-fn next_query<R: Read + Drop>(input: &mut Input<R>) -> Query {
+fn next_query<R: Read>(input: &mut Input<R>) -> Query {
     Query {
         s: PathParam(input.cell()),
         entry: Entry::from(input.small()),
@@ -93,7 +93,7 @@ fn asked(
 }
 
 // (After a part of an array was lent, only a parameter's type tells the prover its length again.)
-fn judged<R: Read + Drop>(
+fn judged<R: Read>(
     trial: &mut Trial<R>,
     query: Query,
     number: u32,
@@ -118,7 +118,7 @@ fn filled() -> [f64; 32]
 }
 
 // There is room for 16 cells in each buffer. What is more is cut off.
-fn call<R: Read + Drop>(trial: &mut Trial<R>, path: PathRecord, coeffs: &[f64]) {
+fn call<R: Read>(trial: &mut Trial<R>, path: PathRecord, coeffs: &[f64]) {
     let query = next_query(&mut trial.input);
     let mut q = filled();
     let mut dq = q;
@@ -135,7 +135,7 @@ fn call<R: Read + Drop>(trial: &mut Trial<R>, path: PathRecord, coeffs: &[f64]) 
 }
 
 // There is room for 16400 coefficients. What is more is cut off.
-fn along<R: Read + Drop>(trial: &mut Trial<R>) {
+fn along<R: Read>(trial: &mut Trial<R>) {
     let path = next_path(&mut trial.input);
     let n = trial.input.count().min(16400);
     let kind = Kind::from(trial.input.count());

@@ -57,7 +57,7 @@ impl Kind {
         bits::float(sign + self.exponent(digits) % 0x800 * 0x10_0000_0000_0000 + fraction)
     }
 
-    fn coefficient<R: Read + Drop>(self, input: &mut Input<R>, digits: u64) -> f64 {
+    fn coefficient<R: Read>(self, input: &mut Input<R>, digits: u64) -> f64 {
         match self {
             Kind::Whole => std::num::nearest_u64_to_f64(digits % 41) - 20.0,
             Kind::Special => special(digits),
@@ -81,7 +81,7 @@ fn special(digits: u64) -> f64 {
     }
 }
 
-pub fn fill<R: Read + Drop>(input: &mut Input<R>, table: &mut [f64], kind: Kind, seed: usize) {
+pub fn fill<R: Read>(input: &mut Input<R>, table: &mut [f64], kind: Kind, seed: usize) {
     let mut x = seed as u64;
     for cell in table {
         let high = next(x);

@@ -24,18 +24,14 @@ fn built(sheet: &[u8], cells: &mut [f64], lent: usize) -> Result<PathRecord, She
 }
 
 // A sheet's number and place, which is what C gets of the answer.
-fn placed<R: Read + Drop, T: Copy>(
-    trial: &mut Trial<R>,
-    sheet: &[u8],
-    answer: Result<T, SheetError>,
-) {
+fn placed<R: Read, T: Copy>(trial: &mut Trial<R>, sheet: &[u8], answer: Result<T, SheetError>) {
     let place = RawPlace::of(sheet, answer);
     trial.answered(place.number);
     trial.whole(place.at);
 }
 
 // A build, with as many cells lent as the input says.
-fn builds<R: Read + Drop>(trial: &mut Trial<R>, sheet: &[u8]) {
+fn builds<R: Read>(trial: &mut Trial<R>, sheet: &[u8]) {
     let mut cells = [0.0; 16392];
     seen::fill(&mut cells);
     let lent = trial.input.count();
@@ -53,7 +49,7 @@ struct Served<'a> {
 
 impl Served<'_> {
     // (Arrays are made and lent apart: the prover knows the length of one that is a parameter, and counts that of one just made.)
-    fn prints_into<R: Read + Drop>(
+    fn prints_into<R: Read>(
         self,
         trial: &mut Trial<R>,
         coeffs: &mut [f64; MOST_CELLS],
@@ -63,14 +59,14 @@ impl Served<'_> {
         trial.called(count == Ok(self.output.len()) && out.starts_with(self.output));
     }
 
-    fn prints<R: Read + Drop>(self, trial: &mut Trial<R>) {
+    fn prints<R: Read>(self, trial: &mut Trial<R>) {
         let mut coeffs = [0.0; MOST_CELLS];
         let mut out = [0; MOST_BYTES];
         self.prints_into(trial, &mut coeffs, &mut out);
     }
 
     // What is printed, the number and place, and two builds.
-    fn serves<R: Read + Drop>(self, trial: &mut Trial<R>) {
+    fn serves<R: Read>(self, trial: &mut Trial<R>) {
         self.prints(trial);
         placed(trial, self.sheet, sheet::read_place(self.sheet));
         builds(trial, self.sheet);
@@ -79,11 +75,7 @@ impl Served<'_> {
 }
 
 // There is room for a text that is too long by one byte, and for the longest output.
-fn trial_in<R: Read + Drop>(
-    trial: &mut Trial<R>,
-    sheet: &mut [u8; 32769],
-    output: &mut [u8; MOST_BYTES],
-) {
+fn trial_in<R: Read>(trial: &mut Trial<R>, sheet: &mut [u8; 32769], output: &mut [u8; MOST_BYTES]) {
     let n = trial.input.count();
     let length = trial.input.bytes(sheet, n);
     let n = trial.input.count();
@@ -95,7 +87,7 @@ fn trial_in<R: Read + Drop>(
     served.serves(trial);
 }
 
-fn trial<R: Read + Drop>(trial: &mut Trial<R>) {
+fn trial<R: Read>(trial: &mut Trial<R>) {
     let mut sheet = [0; 32769];
     let mut output = [0; MOST_BYTES];
     trial_in(trial, &mut sheet, &mut output);
