@@ -2,6 +2,7 @@
 // how many axes there are is known only at the end.
 #![tactic(auto)]
 
+ghost use Rattle.std.specs.Prelude.{◌≡◌};
 ghost use Rattle.sheet_axes.specs.Says.{AxesSay};
 
 use rules::SheetError;
@@ -34,7 +35,8 @@ pub fn read_axes(
     start: &mut [i64; STATE_ROOM],
     end: &mut [i64; STATE_ROOM],
 ) -> Result<AxesRead, SheetError>
-    ensures { AxesSay cursor.old.text.now cursor.old.at result points.new start.new end.new }
+    ensures same { cursor.new.text.now ≡ cursor.old.text.now }
+    ensures says { AxesSay cursor.old.text.now cursor.old.at result points.new start.new end.new }
 {
     let mut sofar = None;
     for k in 0..MOST_AXES {

@@ -17,7 +17,7 @@ use Rattle.sheet_record.specs.Reached.{InReach, Reached}
 use Rattle.sheet_record.specs.declared.SheetRead.{SheetRead}
 use Rattle.sheet_record.specs.ReadOf.{IsReadOf}
 use Rattle.sheet_columns.specs.Columns.{columns_at}
-use Rattle.sheet_columns.specs.Input.{input_read}
+use Rattle.sheet_columns.specs.Input.{input_held, input_read}
 use Rattle.sheet_columns.proofs.States.{columns_long}
 
 pub length-of_each : (f : Axis → List ℤ) (axes : List Axis) → length (of_each f axes) ≡ length axes
@@ -90,15 +90,19 @@ module _ {s : Sheet} {n : SheetNumbers} {points start end : List ℤ} (h : ReadO
       ap (λ (r : ℕ). columns_at stride r columns buffer) (sym (rows f)) ∙ columns_held held long ∙ ap (column_major (each f)) e
 
 -- J9, J26: what is built of what was read is what the sheet stands for
-pub input_is : (s : Sheet) (read : SheetRead) → IsReadOf s read → input_read read ≡ sheet_input s
+pub input_read_lem : (s : Sheet) {n : SheetNumbers} {points start end : List ℤ} → ReadOf s n points start end → input_held n points start end ≡ sheet_input s
 unfolding sheet_input
-input_is (sheet (heading order (range from to)) axes) read h =
+input_read_lem (sheet (heading order (range from to)) axes) h =
     cc (
       points_are_read h,
       major h points_of h.points_held (points_long h) (points_are_read h),
       major h start_of h.start_held (state_long h start_of h.start_is) h.start_is,
       major h end_of h.end_held (state_long h end_of h.end_is) h.end_is,
     )
+
+-- J9, J26: the same of a record of what was read
+pub input_is : (s : Sheet) (read : SheetRead) → IsReadOf s read → input_read read ≡ sheet_input s
+input_is s read h = input_read_lem s h
 
 -- with as many coefficients
 pub cells_are : (s : Sheet) (read : SheetRead) → IsReadOf s read

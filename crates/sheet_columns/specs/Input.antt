@@ -1,6 +1,7 @@
 -- What is built of what was read. Assumes nothing.
-use Rattle.std.specs.Prelude.{List, Float}
+use Rattle.std.specs.Prelude.{List, ℤ, Float}
 use Rattle.rules.specs.Build.{BuildInput, input_of}
+use Rattle.sheet_record.specs.declared.SheetNumbers.{SheetNumbers}
 use Rattle.sheet_record.specs.declared.SheetRead.{SheetRead}
 use Rattle.sheet_config.specs.Config.{config_read}
 use Rattle.sheet_columns.specs.Columns.{columns_at}
@@ -18,3 +19,8 @@ last_column read = let n = read.numbers in columns_at 4 n.axes n.end read.end.no
 abbrev pub input_read : SheetRead → BuildInput
 input_read read =
     let n = read.numbers in input_of (config_read n) n.points n.axes (waypoints_read read) (first_column read) (last_column read)
+
+-- the same of numbers and of lists in buffers, wherever they stand
+abbrev pub input_held : SheetNumbers → List ℤ → List ℤ → List ℤ → BuildInput
+input_held n points start end =
+    input_of (config_read n) n.points n.axes (columns_at 258 n.axes n.points points) (columns_at 4 n.axes n.start start) (columns_at 4 n.axes n.end end)

@@ -25,8 +25,8 @@ pub most_refusal : (number place : ℕ) → number < 2 ^ 32 → place < 2 ^ 64 �
 most_refusal number place h k =
     omega (
       arith,
-      most_digits 10 number (omega arith) (lt_of_lt_of_le h (lit≤ tt)) (lt_of_lt_of_le h (lit≤ tt)),
-      most_digits 20 place (omega arith) (lt_of_lt_of_le k (lit≤ tt)) k,
+      most_digits 9 number (lt_of_lt_of_le h (lit≤ tt)),
+      most_digits 19 place (lt_of_lt_of_le k (lit≤ tt)),
     )
 
 -- ---- sums of lengths
@@ -95,7 +95,7 @@ module _ (p : PathRecord) (t : List Float) where
   axis_least : (a : ℕ) → a < 8 → p.order ≡ 7 → p.segments ≡ 256 → 8 * 256 * 8 ≤ length t → 37778 ≤ length (axis_lines p t a)
   axis_least a h o s room =
       let line : (i : ℕ) → i < p.segments → longest_line i ≤ length (seg_line a i (segment p t a i)) =
-      λ i l. omega (arith, length-segment_line a i, eight t p.order p.segments a i o s h (omega arith) room, some_digit a (omega arith)) in
+      λ i l. omega (arith, length-segment_line a i, eight t p.order p.segments a i o s h (omega arith) room, some_digit a) in
       le_trans (le_of_eq (sym longest_axis ∙ ap (λ (n : ℕ). sum n longest_line) (sym s)))
       (le_trans (sum_le p.segments longest_line _ line) (le_of_eq (sym (length-sum p.segments _))))
 
@@ -109,7 +109,7 @@ module _ (p : PathRecord) (t : List Float) where
         length-table_line p,
         length_digit p.order (omega arith),
         length_digit p.axes (omega arith),
-        most_digits 3 p.segments (omega arith) (omega arith) (omega arith),
+        most_digits 2 p.segments (omega arith),
       )
 
   table_least : p.order ≡ 7 → p.segments ≡ 256 → p.axes ≡ 8 → 8 * 256 * 8 ≤ length t
@@ -122,8 +122,8 @@ module _ (p : PathRecord) (t : List Float) where
         arith,
         length-sum p.axes (axis_lines p t),
         length-table_line p,
-        some_digit p.order (omega arith),
-        some_digit p.axes (omega arith),
+        some_digit p.order,
+        some_digit p.axes,
         ap (λ (n : ℕ). length (natural n)) s,
         three_digits,
       )

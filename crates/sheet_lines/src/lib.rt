@@ -50,15 +50,23 @@ pub fn put_table_line(page: &mut Page, path: PathRecord)
 
 // J12: a refusal, "number and byte place", and how many bytes that is. 42 bytes are enough for each.
 #[tactic(auto, using(crate::proofs::Fits::most_refusal))]
-pub fn write_refused(refusal: SheetError, out: &mut [u8]) -> usize
+pub fn write_refused(number: u32, at: usize, out: &mut [u8]) -> usize
+    requires { 42 ≤ length out.old }
+    ensures { let bytes = refused_output number at in
+        (result ≡ length bytes) × (out.new ≡ bytes ++ drop (length bytes) out.old) }
+{
+    let mut page = Page::new(out);
+    put_number(&mut page, b"(refused ", number as usize);
+    put_number(&mut page, b" ", at);
+    page.put_bytes(b")\n");
+    page.at
+}
+
+// J12: the same of a refusal of the reader or the build.
+pub fn write_refusal(refusal: SheetError, out: &mut [u8]) -> usize
     requires { 42 ≤ length out.old }
     ensures { let bytes = refused_output (number_of refusal.cause) refusal.at in
         (result ≡ length bytes) × (out.new ≡ bytes ++ drop (length bytes) out.old) }
 {
-    let number = u32::from(refusal.cause);
-    let mut page = Page::new(out);
-    put_number(&mut page, b"(refused ", number as usize);
-    put_number(&mut page, b" ", refusal.at);
-    page.put_bytes(b")\n");
-    page.at
+    write_refused(u32::from(refusal.cause), refusal.at, out)
 }

@@ -20,7 +20,7 @@ fn write_answer(answer: Result<PathRecord, SheetError>, coeffs: &[f64], out: &mu
             let cells = path.axes * path.segments * (path.order + 1);
             sheet_output::write_table(path, &coeffs[..cells], out)
         }
-        Err(refusal) => sheet_lines::write_refused(refusal, out),
+        Err(refusal) => sheet_lines::write_refused(u32::from(refusal.cause), refusal.at, out),
     }
 }
 

@@ -17,7 +17,7 @@ WholeSays text (Ok (Err e)) points start end =
     (s : Sheet) × (reading.sheet_of text ≡ reading.got s []) × ((rest : List Refusal) × (sizes s ≡ refusal (number_of e.cause) e.at ∷ rest))
 WholeSays text (Err e) points start end = (reading.sheet_of text ≡ stop_at text e) × (e.at ≤ length text)
 
--- a readable sheet is handed over, or its refusal
+-- J19: a readable sheet is handed over, or its refusal, as the judge says, who looks at 32,768 bytes at the most
 abbrev pub SheetSays : Judged → Result SheetNumbers SheetError → List ℤ → List ℤ → List ℤ → Type 0
 SheetSays (readable s) (Ok n) points start end = ReadOf s n points start end
 SheetSays (readable s) (Err e) points start end = ⊥

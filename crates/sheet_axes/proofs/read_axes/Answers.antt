@@ -17,8 +17,8 @@ loop-k-init c =
       sofar = at_start_lem here.text.now here.at a.points.now a.start.now a.end.now here.inside c.told-points c.told-start c.told-end;
     }
 
-pub returns-in_err-read : goal.returns-in_err-read
-returns-in_err-read c =
+pub returns-in_err-read-clause-says : goal.returns-in_err-read-clause-says
+returns-in_err-read-clause-says c =
     let here = c.args.cursor.now in
     let l = c.loop-k in
     let i = l.invariant in
@@ -27,8 +27,8 @@ returns-in_err-read c =
     (axis_stops here.text.now here.at l.k l.cursor.at _ l.points l.start l.end i.sofar c.loop-k-test.true i.points_long i.start_long i.end_long _
     (rw i.same at c.in_err-read.ensures.says))
 
-pub returns-then-cursor : goal.returns-then-cursor
-returns-then-cursor c =
+pub returns-then-cursor-clause-says : goal.returns-then-cursor-clause-says
+returns-then-cursor-clause-says c =
     let here = c.args.cursor.now in
     let l = c.loop-k in
     let i = l.invariant in
@@ -61,8 +61,8 @@ loop-k-preserved c =
           (rw i.same at c.in_ok-read.ensures.says) on);
     }
 
-pub returns : goal.returns
-returns c =
+pub returns-clause-says : goal.returns-clause-says
+returns-clause-says c =
     let here = c.args.cursor.now in
     let l = c.loop-k in
     rw c.invalid_sheet.ensures (ninth here.text.now here.at l.cursor.at _ l.points l.start l.end l.k c.loop-k-test.false l.invariant.sofar)

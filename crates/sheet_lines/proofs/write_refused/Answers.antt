@@ -9,6 +9,6 @@ pub returns : goal.returns
 returns c =
     let w =
     wrote_all c.new-page.ensures.as_lent c.new-page.ensures.at_start
-    (wrote_as (refusal_parts c.from-number.result c.args.refusal.at)
+    (wrote_as (refusal_parts c.args.number c.args.at)
     (wrote_both c.put_number.ensures (wrote_both c.put_number-2.ensures c.put_bytes.ensures))) in
-    rw (← c.from-number.ensures) (w.0, search rules ∙ w.1)
+    (w.0, search rules ∙ w.1)

@@ -19,14 +19,14 @@ returns-in_err-rest c =
     let p = err_from_is_err_and c.from_residual-in_err-rest.result c.from_residual-in_err-rest.ensures.1 in
     let first = c.in_ok-first.ensures in
     let reads = rw (← first.same) at first.says.reads in
-    rw (p.1, p.2, ← first.same) (stops_whole c.heading.new.cursor.text.now _ (pair_stops sheet _ _ _ 0 _ _ reads _ c.in_err-rest.ensures))
+    rw (p.1, p.2, ← first.same) (stops_whole c.heading.new.cursor.text.now _ (pair_stops sheet _ _ _ 0 _ _ reads _ c.in_err-rest.ensures.says))
 
 pub returns-in-Some : goal.returns-in-Some
 returns-in-Some c =
     let first = c.in_ok-first.ensures in
-    sized_whole c.args.text.now _ _ first.says c.in_ok-rest.rest _ _ _ (rw first.same at c.in_ok-rest.ensures) _ c.in-Some.is
+    sized_whole c.args.text.now _ _ first.says c.in_ok-rest.rest _ _ _ (rw first.same at c.in_ok-rest.ensures.says) _ c.in-Some.is
 
 pub returns-in-None : goal.returns-in-None
 returns-in-None c =
     let first = c.in_ok-first.ensures in
-    read_whole c.args.text.now _ _ first.says c.in_ok-rest.rest _ _ _ (rw first.same at c.in_ok-rest.ensures) c.in-None.is
+    read_whole c.args.text.now _ _ first.says c.in_ok-rest.rest _ _ _ (rw first.same at c.in_ok-rest.ensures.says) c.in-None.is
