@@ -8,7 +8,8 @@ ghost use Rattle.law_lists.specs.Lists.{listed};
 ghost use Rattle.rules.specs.Solve.{entry};
 ghost use Rattle.rules.specs.Build.{of_axis};
 
-// B11: waypoint p of an axis: "Waypoints are column-major, axes by points".
+// B11: waypoint p of an axis: "Waypoints are column-major, axes by points". (The parameters stay loose, here and below: a caller may have
+// an axis that is none of the axes, which `AxisWaypoints` excludes.)
 pub fn waypoint(axes: usize, waypoints: &[f64], axis: usize, p: usize) -> f64
     requires { p * axes + axis < length waypoints.now }
     ensures { result ≡ waypoints.now ! (p * axes + axis) }
@@ -16,7 +17,8 @@ pub fn waypoint(axes: usize, waypoints: &[f64], axis: usize, p: usize) -> f64
     waypoints[p * axes + axis]
 }
 
-// R1: "dy = right minus left waypoint", of segment i.
+// R1: "dy = right minus left waypoint", of segment i. (The parameters stay loose, and that the axis is one of the axes stays a clause, as
+// above.)
 pub fn dy(axes: usize, waypoints: &[f64], axis: usize, i: usize) -> f64
     requires { (axis < axes) × (suc i * axes + axis < length waypoints.now) }
     ensures { result ≡ waypoints.now ! (suc i * axes + axis) ⊖ waypoints.now ! (i * axes + axis) }
@@ -34,7 +36,7 @@ pub struct AxisWaypoints<'a> {
 }
 
 impl<'a> AxisWaypoints<'a> {
-    // B11: waypoint p.
+    // B11: waypoint p. (It stays beside the function of that name, which has no `AxisWaypoints`.)
     pub fn waypoint(self, p: usize) -> f64
         requires { p * self.axes + self.axis < length self.waypoints.now }
         ensures { result ≡ of_axis self.entry.axes self.entry.waypoints.now self.entry.axis p }
@@ -42,7 +44,7 @@ impl<'a> AxisWaypoints<'a> {
         waypoint(self.axes, self.waypoints, self.axis, p)
     }
 
-    // R1: "dy = right minus left waypoint", of segment i.
+    // R1: "dy = right minus left waypoint", of segment i. (It stays beside the function of that name, as above.)
     pub fn dy(self, i: usize) -> f64
         requires { suc i * self.axes + self.axis < length self.waypoints.now }
         ensures { result

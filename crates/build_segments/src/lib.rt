@@ -43,7 +43,8 @@ pub fn numbers_of_node<'a>(ends: BoundaryNumbers<'a>, solved: &'a [f64], i: usiz
     node_numbers(ends.tables.m, ends.n, ends.numbers, solved, i)
 }
 
-// R2: "Upper coefficient i = (H[i,0] × dy + P) + Q": the m + 1 of a segment.
+// R2: "Upper coefficient i = (H[i,0] × dy + P) + Q": the m + 1 of a segment. (Its lists stay parameters and what holds of them stays
+// clauses: a caller may have an H without the tables that `BlockMatrices` holds.)
 pub fn upper_coeffs(m: usize, h_coeff: &[f64], dy: f64, u0: &[f64], u1: &[f64], out: &mut [f64])
     requires { (1 ≤ m)
         × HoldsH m h_coeff.now

@@ -6,7 +6,8 @@ ghost use Rattle.std.specs.Prelude.{◌≡◌};
 ghost use Rattle.theorem_pivots.specs.Repeating.{settled, distinct};
 
 // Z3: a node, among the first few, that has the matrix of inner node i. At order 7 the matrices go round in a cycle of 57; at orders
-// 3 and 5 each is the one before it in the end.
+// 3 and 5 each is the one before it in the end. (m and the node stay two parameters, and m and n below: two numbers, of which a struct
+// would be made for the call.)
 #[tactic(auto, unfolding(theorem_pivots::specs::Repeating::settled, theorem_pivots::specs::Repeating::lead, theorem_pivots::specs::Repeating::period))]
 pub fn settled(m: usize, i: usize) -> usize
     ensures { result ≡ settled m i }
@@ -23,7 +24,7 @@ pub fn settled(m: usize, i: usize) -> usize
     }
 }
 
-// Z3: how many nodes have all the matrices of n inner nodes: 15, 24 and 91 at most.
+// Z3: how many nodes have all the matrices of n inner nodes: 15, 24 and 91 at most. (The two parameters stay, as above.)
 #[tactic(auto, unfolding(theorem_pivots::specs::Repeating::distinct, theorem_pivots::specs::Repeating::lead, theorem_pivots::specs::Repeating::period))]
 pub fn distinct(m: usize, n: usize) -> usize
     ensures { result ≡ distinct m n }

@@ -40,7 +40,8 @@ struct SideParts<'a> {
     ghost last_length: { length last.now ≡ m },
 }
 
-// R6, R7: the right side at an inner node: "at the first node minus A·start; at the last then minus C·end".
+// R6, R7: the right side at an inner node: "at the first node minus A·start; at the last then minus C·end". (Node and lists stay
+// parameters, here and below: the node is another at each call, as crates/build_nodes says.)
 fn bounded_side(parts: SideParts, node: InnerNode, side: &mut [f64])
     requires { (node.i < parts.n) × (length side.old ≡ parts.m) }
     ensures { (w : List Float) → dy w node.i ≡ node.dy_prev → dy w (suc node.i) ≡ node.dy_next
@@ -59,7 +60,8 @@ fn bounded_side(parts: SideParts, node: InnerNode, side: &mut [f64])
     }
 }
 
-// R8: the right side of an inner node, "past the first then minus A times the previous solved right side".
+// R8: the right side of an inner node, "past the first then minus A times the previous solved right side". (The parameters stay, as
+// above.)
 fn inner_side(parts: SideParts, node: InnerNode, solved: &[f64], side: &mut [f64])
     requires { (node.i < parts.n)
         × (length side.old ≡ parts.m)
@@ -120,7 +122,7 @@ pub fn full_side(
     inner_side(parts, node, solved, side);
 }
 
-// R8: the same of an axis's boundary numbers, with the tables of an order.
+// R8: the same of an axis's boundary numbers, with the tables of an order. (The parameters stay, as above.)
 pub fn full_side_with(ends: BoundaryNumbers, node: InnerNode, solved: &[f64], side: &mut [f64])
     requires { (node.i < ends.n)
         × (length side.old ≡ ends.tables.now.m)

@@ -42,7 +42,7 @@ impl Name {
     }
 }
 
-// That of the least i64: 2^63.
+// That of the least i64: 2^63. (It stays apart from a float's sign bit, `SIGN` of crates/fused_words.)
 const MIN_MAGNITUDE: u64 = 0x8000_0000_0000_0000;
 
 // A number as it is read. (The minus stays a flag: it is asked once, in `signed`, where an enum of two signs would be matched.)
