@@ -21,7 +21,7 @@ use Rattle.fused_general.proofs.Values.{same_finite, fused_values, zero_product,
 pub held : {b : Bool} → b ≡ true → T b
 held h = subst T (sym h) tt
 
-field_lt : (x : Float) → T (fits binary64 x) → float_is_finite x ≡ true → field (to_bits binary64 x) < ones binary64
+pub field_lt : (x : Float) → T (fits binary64 x) → float_is_finite x ≡ true → field (to_bits binary64 x) < ones binary64
 field_lt x fit fine = finite_field binary64 (to_bits binary64 x) (held (ap finite (of_bits-to_bits binary64 x fit) ∙ sym (same_finite x) ∙ fine))
 
 pub nonzero : (x : Float) → T (fits binary64 x) → float_is_finite x ≡ true → (to_bits binary64 x % 2 ^ 63 ≡ 0 → ⊥) → Nonzero (to_bits binary64 x)
@@ -44,13 +44,13 @@ size x = magnitude (to_bits binary64 x)
 
 -- ---- the definition at finite operands, by their bits
 
-pub by_bits : (a b c : Float) → T (fits binary64 a) → T (fits binary64 b) → T (fits binary64 c) → Nonzero (to_bits binary64 a)
-    → Nonzero (to_bits binary64 b) → Nonzero (to_bits binary64 c)
+pub by_bits : (a b c : Float) → T (fits binary64 a) → T (fits binary64 b) → T (fits binary64 c) → field (to_bits binary64 a) < ones binary64
+    → field (to_bits binary64 b) < ones binary64 → field (to_bits binary64 c) < ones binary64
     → fused binary64 a b c ≡ summed (to_bits binary64 a) (to_bits binary64 b) (to_bits binary64 c)
 unfolding sign size
 by_bits a b c p q r i j k =
-    fused_values binary64 a b c (sign a) (size a) (sign b) (size b) (sign c) (size c) (2 ^ 1074) (pow_pos 1074) (float_value a p i.0)
-    (float_value b q j.0) (float_value c r k.0)
+    fused_values binary64 a b c (sign a) (size a) (sign b) (size b) (sign c) (size c) (2 ^ 1074) (pow_pos 1074) (float_value a p i)
+    (float_value b q j) (float_value c r k)
 
 module _ (a b c : Float) (p : T (fits binary64 a)) (q : T (fits binary64 b)) (r : T (fits binary64 c)) (i : float_is_finite a ≡ true)
     (j : float_is_finite b ≡ true) (k : float_is_finite c ≡ true) where

@@ -1,26 +1,57 @@
 -- From leading bits to a rounded fraction: what the steps of the code come to. Assumes nothing.
 use mathlib.Core.Path.{◌≡◌, refl, sym, ap, ap₂, ◌∙◌, subst}
 use mathlib.Core.Logic.{inl, inr}
-use Prim.Native.Nat.{ℕ, ◌+◌, ◌-◌, ◌*◌, ◌/◌, ◌%◌, ◌^◌, ◌≤◌, ◌<◌}
+use Prim.Native.Nat.{ℕ, suc, ◌+◌, ◌-◌, ◌*◌, ◌/◌, ◌%◌, ◌^◌, ◌≤◌, ◌<◌, compare, Ordering}
 use native.Mathlib.Nat.{le_of_eq, le_trans, mul_assoc, mul_comm, mul_right_comm, mul-pos, add-mul, mod-lt, mod-eq_of_lt, div-add-mod', eq-zero-or-pos}
-use native.Mathlib.Nat.{lt_of_mul-lt-mul_right, add-zero, zero-mul, le-add_right}
+use native.Mathlib.Nat.{lt_of_mul-lt-mul_right, add-zero, zero-mul, le_antisymm, le-add_right}
 use native.Mathlib.Omega.{arith}
 use mathlib.Core.Bool.{Bool}
-use lib.Dec.{lit≤}
+use lib.Dec.{T, lit≤, compare_is_eq, eqb, eqb_refl}
 use lib.Arith.{digits_lt}
 use lib.Pow.{pow-add, pow_pos, shr_lt, shr-shr}
-use lib.Ieee.{Float, binary64, round}
+use lib.Ieee.{Float, binary64, round, nearest}
+use lib.Ieee.Fits.{nearest-le}
+use lib.Ieee.Nearest.{closest}
 use Rattle.law_rounding.specs.Sticky.{Sticky}
+use Rattle.law_rounding.proofs.Numbers.{less_or_not, compare_lt, compare_gt}
 use Rattle.law_rounding.proofs.Sticky.{sticky_cut, sticky_again}
 use Rattle.law_rounding.proofs.Word.{round_word}
 use Rattle.law_rounding.proofs.Values.{round_shift}
 use Rattle.fused_words.proofs.Shift.{Marked, moved}
 use Rattle.fused_pack.specs.Rounds.{Patterned}
 
+-- two equal numbers, compared
+compare_eq : (a b : ℕ) → a ≡ b → compare a b ≡ Ordering.eq
+compare_eq a b h = go (compare a b) (subst (λ (x : ℕ). T (eqb a x)) h (eqb_refl a))
+  where
+    go : (o : Ordering) → T (compare_is_eq o) → o ≡ Ordering.eq
+    go Ordering.lt p = absurd p
+    go Ordering.eq p = refl
+    go Ordering.gt p = absurd p
+
+-- half the unit, less one, and one more where the whole part is odd: the sum reaches the next unit just where the whole part is to move up
+pub nearest_is : (w : ℕ) → w / 2048 + (w % 2048 + 1023 + w / 2048 % 2) / 2048 ≡ closest w 2048
+nearest_is w = elim (less_or_not (w % 2048 * 2) 2048) [
+  | inl l ↦ below w l ∙ ap (nearest (w / 2048)) (sym (compare_lt (w % 2048 * 2) 2048 l))
+  | inr g ↦ elim (less_or_not 2048 (w % 2048 * 2)) [
+    | inl l ↦ above w l ∙ ap (nearest (w / 2048)) (sym (compare_gt (w % 2048 * 2) 2048 l))
+    | inr h ↦ let e = le_antisymm h g in tie w e ∙ ap (nearest (w / 2048)) (sym (compare_eq (w % 2048 * 2) 2048 e))
+  ]
+]
+  where
+    below : (w : ℕ) → w % 2048 * 2 < 2048 → w / 2048 + (w % 2048 + 1023 + w / 2048 % 2) / 2048 ≡ w / 2048
+    below w l = omega arith
+
+    above : (w : ℕ) → 2048 < w % 2048 * 2 → w / 2048 + (w % 2048 + 1023 + w / 2048 % 2) / 2048 ≡ suc (w / 2048)
+    above w l = omega arith
+
+    tie : (w : ℕ) → w % 2048 * 2 ≡ 2048 → w / 2048 + (w % 2048 + 1023 + w / 2048 % 2) / 2048 ≡ w / 2048 + w / 2048 % 2
+    tie w l = omega arith
+
 moved_power : (v a b : ℕ) → 2 ^ a * v * 2 ^ b ≡ v * 2 ^ (a + b)
 moved_power v a b = ap (λ (n : ℕ). n * 2 ^ b) (mul_comm (2 ^ a) v) ∙ mul_assoc v (2 ^ a) (2 ^ b) ∙ ap (λ (n : ℕ). v * n) (sym (pow-add 2 a b))
 
--- ---- `rounded_word`: below the smallest normal value the word is cut to the smallest value's place
+-- ---- `rounded`: below the smallest normal value the word is cut to the smallest value's place
 
 pub rounded_low : (s : Bool) (w g y v x : ℕ) → g < 1251 → y < 2 ^ 64 → Sticky (2 ^ (1251 - g)) w y → 0 < v → Sticky v x w
     → Patterned s y 0 ≡ round binary64 s (x * 2 ^ g) (v * 2 ^ 2336)
@@ -105,6 +136,10 @@ leading_round s e z v x l p =
   where
     sums : (e z : ℕ) → z < 64 → e + 64 - z + 2336 ≡ e + (64 - z + 2336)
     sums e z h = omega arith
+
+-- the digits kept of a word, with a carry
+pub nearest_lt : (w : ℕ) → w < 2 ^ 64 → closest w (2 ^ 11) ≤ 2 ^ 53
+nearest_lt w h = le_trans (nearest-le (w / 2 ^ 11) (compare (w % 2 ^ 11 * 2) (2 ^ 11))) (shr_lt 53 11 h)
 
 -- ---- `Term::rounded`
 

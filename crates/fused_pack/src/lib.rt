@@ -36,7 +36,7 @@ fn pattern(negative: bool, w: u64, k: u64) -> f64
 
 // w * 2^g / 2^2336, rounded. Below g = 1251 the last bit of w that is kept would weigh less than
 // the smallest float, so that w is cut further first.
-fn rounded_word(negative: bool, w: u64, g: u64) -> f64
+fn rounded(negative: bool, w: u64, g: u64) -> f64
     requires { (2 ^ 63 ≤ w) × (g < 5000) }
     ensures { (v x : ℕ) → 0 < v → Sticky v x w → result ≡ round binary64 negative (x * 2 ^ g) (v * 2 ^ 2336) }
 {
@@ -66,7 +66,7 @@ impl Term {
         let Words { high, low } = self.words;
         let zeros = u64::leading_zeros(high) as u64;
         let w = (high << zeros) + ((low >> 1) >> (63 - zeros));
-        rounded_word(
+        rounded(
             self.negative,
             marked(w, low << zeros),
             self.exponent + 64 - zeros,

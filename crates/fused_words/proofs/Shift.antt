@@ -1,5 +1,5 @@
 -- Shifts to the right that keep a sticky last bit, of one word and of two. Assumes nothing.
-use Rattle.std.proofs.Common.{◌≡◌, ℕ, ◌+◌, ◌-◌, ◌*◌, ◌/◌, ◌%◌, ◌^◌, ◌<◌, ◌≤◌, sym, refl, ap, ◌∙◌, subst, ap₂, lt_of_lt_of_le, lt_of_le_of_lt, add-zero, mod-lt, mod-eq_of_lt, mul_assoc, mul_comm, add-mul, div-add-mod', zero-add, zero-mul, mul_right_comm, div-mul-le_self, mul-div_cancel, arith, pow_pos, pow_mono, pow-add, shr_lt}
+use Rattle.std.proofs.Common.{◌≡◌, ℕ, ◌+◌, ◌-◌, ◌*◌, ◌/◌, ◌%◌, ◌^◌, ◌<◌, ◌≤◌, sym, refl, ap, ◌∙◌, subst, ap₂, le_trans, le_of_eq, lt_of_lt_of_le, lt_of_le_of_lt, add-zero, mod-lt, mod-eq_of_lt, mul_assoc, mul_comm, add-mul, div-add-mod', zero-add, zero-mul, mul_right_comm, div-mul-le_self, mul-div_cancel, arith, pow_pos, pow_mono, pow-add, shr_lt}
 use native.Mathlib.Nat.{mul-mod_left}
 use lib.Arith.{digits_lt, mod-mul}
 use Rattle.law_rounding.specs.Sticky.{Sticky}
@@ -9,12 +9,20 @@ use Rattle.law_rounding.proofs.Sticky.{sticky_cut, sticky_again}
 abbrev pub Marked : ℕ → ℕ → ℕ → Type 0
 Marked x r y = (r ≡ 0 → y ≡ x) × (0 < r → y ≡ x / 2 * 2 + 1)
 
--- what a shift there and back takes off a word
+-- what a shift there and back leaves of a word, and what it takes off
+pub back_le : (x n : ℕ) → x < 2 ^ 64 → x / 2 ^ n * 2 ^ n % 2 ^ 64 ≤ x
+back_le x n h = le_trans (le_of_eq (mod-eq_of_lt (lt_of_le_of_lt (div-mul-le_self x (2 ^ n)) h))) (div-mul-le_self x (2 ^ n))
+
 rest_is : (x n : ℕ) → x < 2 ^ 64 → x - x / 2 ^ n * 2 ^ n % 2 ^ 64 ≡ x % 2 ^ n
 rest_is x n h =
     let e : x / 2 ^ n * 2 ^ n % 2 ^ 64 ≡ x / 2 ^ n * 2 ^ n = mod-eq_of_lt (lt_of_le_of_lt (div-mul-le_self x (2 ^ n)) h) in
     let d = div-add-mod' x (2 ^ n) in
     omega (arith, e, d)
+
+pub word_shifted : (x n y : ℕ) → x < 2 ^ 64 → Marked (x / 2 ^ n) (x - x / 2 ^ n * 2 ^ n % 2 ^ 64) y → Sticky (2 ^ n) x y
+word_shifted x n y h m =
+    let k = subst (λ (r : ℕ). Marked (x / 2 ^ n) r y) (rest_is x n h) m in
+    sticky_cut (2 ^ n) x (x / 2 ^ n) (x % 2 ^ n) y (div-add-mod' x (2 ^ n)) (mod-lt x (pow_pos n)) k.0 k.1
 
 -- from 64 on nothing is left but the sticky digit
 pub word_gone : (x n y : ℕ) → x < 2 ^ 64 → 64 ≤ n → Marked 0 x y → Sticky (2 ^ n) x y

@@ -14,6 +14,28 @@ use master_questions::master_questions;
 use master_segments::check_segment;
 use rules::PathError;
 
+// A1, M8: whether an answer is yes. (A no is not a refusal, so `is_ok` is another question.)
+#[tactic(auto, unfolding(rules::specs::Master::master_says))]
+pub fn is_yes(answer: Result<bool, PathError>) -> bool
+    ensures { result ≡ (master_says answer).good }
+{
+    match answer {
+        Ok(yes) => yes,
+        Err(_) => false,
+    }
+}
+
+// M8: whether an answer is a refusal.
+#[tactic(auto, unfolding(rules::specs::Master::master_says))]
+pub fn is_refused(answer: Result<bool, PathError>) -> bool
+    ensures { result ≡ (master_says answer).refused }
+{
+    match answer {
+        Ok(_) => false,
+        Err(_) => true,
+    }
+}
+
 // The pass over the table. A number out of range is a refusal wherever it stands, so a segment that does not
 // meet its equations does not end the pass.
 #[tactic(auto, using(crate::proofs::Pass::by_segments))]

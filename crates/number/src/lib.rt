@@ -7,7 +7,7 @@ ghost use Rattle.std.specs.Prelude.{◌≡◌, true, ◌&&◌, ◌^◌, ◌≤�
 ghost use Rattle.rules.specs.SheetNumbers.{too_large, signed_by, begun, sound, go_on, is_read, finished};
 
 use number_byte::{ENDED, FRESH, LARGE, ZERO};
-use number_pieces::{digits, is_sound, next_byte};
+use number_pieces::{is_sound, with_byte, with_digits};
 use rules::{NumberAnswer, NumberReading, PathError};
 
 // N2: a number that is to be read from a place on.
@@ -33,12 +33,12 @@ pub fn go_on(reading: NumberReading, bytes: &[u8]) -> NumberReading
     let [a, rest @ ..] = bytes else {
         return reading;
     };
-    let first = next_byte(reading, *a);
+    let first = with_byte(reading, *a);
     let [b, others @ ..] = rest else {
         return first;
     };
-    let second = next_byte(first, *b);
-    digits(second, others)
+    let second = with_byte(first, *b);
+    with_digits(second, others)
 }
 
 // A size with its sign. (The minus stays a number, as crates/number_byte says, and how large the size is stays a clause: any number may

@@ -2,7 +2,7 @@
 // crates/rules/specs/SheetNumbers.antt.
 #![tactic(auto)]
 
-ghost use Rattle.std.specs.Prelude.{◌≡◌, true, ◌^◌, ◌≤◌, ◌∷◌, []};
+ghost use Rattle.std.specs.Prelude.{◌≡◌, true, ◌^◌, ◌≤◌, ◌∷◌, [], take, drop};
 ghost use Rattle.rules.specs.SheetNumbers.{sound, is_open, go_on};
 ghost use Rattle.theorem_numbers.specs.Pieces.{Settled, is_more};
 
@@ -29,14 +29,24 @@ fn is_open(reading: NumberReading) -> bool
 }
 
 // A byte, where the record takes it.
-#[tactic(auto, using(crate::proofs::Bytes::one_byte, theorem_numbers::proofs::Going::stays))]
-pub fn next_byte(reading: NumberReading, b: u8) -> NumberReading
+#[tactic(auto, using(crate::proofs::Bytes::byte_taken, theorem_numbers::proofs::Going::stays))]
+pub fn with_byte(reading: NumberReading, b: u8) -> NumberReading
     ensures { result ≡ go_on reading (b ∷ []) }
 {
     if !is_open(reading) {
         return reading;
     }
     taken(reading, b)
+}
+
+// The byte at a place, where there is one and the record takes it.
+pub fn next_byte(reading: NumberReading, bytes: &[u8], at: usize) -> NumberReading
+    ensures { result ≡ go_on reading (take 1 (drop at bytes.now)) }
+{
+    if bytes.len() <= at {
+        return reading;
+    }
+    with_byte(reading, bytes[at])
 }
 
 // Whether a byte is one more digit behind others, which the limit lets pass. (It is asked before the byte is taken, so that the loop has
@@ -52,7 +62,7 @@ fn is_more(size: u64, b: u8) -> bool
 // stays by hand: it goes on with what it has kept, and a search by `position` would read the digits and leave their worth to a second
 // loop.)
 #[tactic(auto, using(crate::proofs::Bytes::settled_stays, theorem_numbers::proofs::Pieces::unsound_is_over, theorem_numbers::proofs::Going::stays))]
-pub fn digits(reading: NumberReading, bytes: &[u8]) -> NumberReading
+pub fn with_digits(reading: NumberReading, bytes: &[u8]) -> NumberReading
     requires { Settled reading bytes.now }
     ensures { result ≡ go_on reading bytes.now }
 {
@@ -70,4 +80,15 @@ pub fn digits(reading: NumberReading, bytes: &[u8]) -> NumberReading
         kept = taken(kept, b);
     }
     kept
+}
+
+// The bytes from a place on, of a record that is in its digits, or takes none of them.
+pub fn digits(reading: NumberReading, bytes: &[u8], from: usize) -> NumberReading
+    requires { Settled reading (drop from bytes.now) }
+    ensures { result ≡ go_on reading (drop from bytes.now) }
+{
+    if bytes.len() <= from {
+        return reading;
+    }
+    with_digits(reading, &bytes[from..])
 }

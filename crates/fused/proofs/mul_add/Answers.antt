@@ -23,4 +23,4 @@ returns-then-long c =
     let some = common_nonzero x y z common.0 in
     common_shifted x y z (above x y z) c.excess-far.result sum.0 c.sum-sum.result.words c.converted.result
     far common.0 common.1 fields.4 (omega arith) sum.1 is converted (c.long.ensures c.if-long.true)
-    ∙ sym (by_bits c.args.a c.args.b c.args.c (held good.0.1) (held good.1.0.1) (held good.1.1.0.1) some.0 some.1 some.2)
+    ∙ sym (by_bits c.args.a c.args.b c.args.c (held good.0.1) (held good.1.0.1) (held good.1.1.0.1) some.0.0 some.1.0 some.2.0)

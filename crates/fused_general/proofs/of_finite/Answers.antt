@@ -1,6 +1,6 @@
 -- Each way out is a law of proofs/Operands.antt. Assumes nothing.
 use Rattle.std.proofs.Common.{sym, ◌∙◌}
-use Rattle.fused_general.proofs.Operands.{held, nonzero, by_bits, zero_first, zero_second, zero_third}
+use Rattle.fused_general.proofs.Operands.{held, field_lt, nonzero, by_bits, zero_first, zero_second, zero_third}
 use Rattle.fused_general.proofs.Values.{finite_no_nan}
 use Rattle.fused_general.proofs.of_finite.Goals as goal
 use Rattle.fused_general.proofs.of_finite.Goals.{then-x-eq0-via-then-x-eq0, then-x-eq0-via-else-x-eq0+then-y-eq0}
@@ -48,5 +48,4 @@ returns c =
     c.of_operands.ensures
     ∙ sym
     (by_bits c.args.a c.args.b c.args.c (held f.0.1) (held f.1.0.1) (held f.1.1.0.1)
-    (nonzero c.args.a (held f.0.1) r.0 c.if-x-eq0.false) (nonzero c.args.b (held f.1.0.1) r.1 c.if-y-eq0.false)
-    (nonzero c.args.c (held f.1.1.0.1) r.2 c.if-z-eq0.false))
+    (field_lt c.args.a (held f.0.1) r.0) (field_lt c.args.b (held f.1.0.1) r.1) (field_lt c.args.c (held f.1.1.0.1) r.2))

@@ -13,8 +13,8 @@ overflow_add-w c =
     let w = c.args.self.words in
     Fits-bits 64 tt (word_lt w.high w.low _ (zeros_lt w.high c.requires.0 (omega arith)) (normalized w.high c.requires.0 (omega arith)).1 (omega arith))
 
-pub rounded_word-requires : goal.rounded_word-requires
-rounded_word-requires c =
+pub rounded-requires : goal.rounded-requires
+rounded-requires c =
     let w = c.args.self.words in
     let front = normalized w.high c.requires.0 (omega arith) in (
       leading_ge w.high w.low _ (zeros_lt w.high c.requires.0 (omega arith)) front.1 (omega arith) c.marked.result front.0 c.marked.ensures,
@@ -28,6 +28,6 @@ returns c v x p t =
     let few : z < 64 = zeros_lt s.words.high c.requires.0 (omega arith) in
     let fits : s.words.high * 2 ^ z < 2 ^ 64 = (normalized s.words.high c.requires.0 (omega arith)).1 in
     let y = leading_sticky s.words.high s.words.low z few fits (omega arith) c.marked.result c.marked.ensures in
-    c.rounded_word.ensures (2 ^ (64 - z) * v) x (mul-pos (pow_pos (64 - z)) p)
+    c.rounded.ensures (2 ^ (64 - z) * v) x (mul-pos (pow_pos (64 - z)) p)
     (sticky_again v (2 ^ (64 - z)) x (value s.words) c.marked.result p (pow_pos (64 - z)) t y)
     ∙ leading_round s.negative s.exponent z v x few p

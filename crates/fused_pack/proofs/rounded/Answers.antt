@@ -1,7 +1,7 @@
 -- Assumes nothing.
 use Rattle.std.proofs.Common.{◌∙◌}
 use Rattle.fused_pack.proofs.Round.{rounded_low, rounded_high}
-use Rattle.fused_pack.proofs.rounded_word.Goals as goal
+use Rattle.fused_pack.proofs.rounded.Goals as goal
 
 pub returns-then-g-lt1251 : goal.returns-then-g-lt1251
 returns-then-g-lt1251 c v x p s =
