@@ -1,33 +1,24 @@
 -- From leading bits to a rounded fraction: what the steps of the code come to. Assumes nothing.
 use mathlib.Core.Path.{◌≡◌, refl, sym, ap, ap₂, ◌∙◌, subst}
 use mathlib.Core.Logic.{inl, inr}
-use Prim.Native.Nat.{ℕ, suc, ◌+◌, ◌-◌, ◌*◌, ◌/◌, ◌%◌, ◌^◌, ◌≤◌, ◌<◌, compare, Ordering}
+use Prim.Native.Nat.{ℕ, suc, ◌+◌, ◌-◌, ◌*◌, ◌/◌, ◌%◌, ◌^◌, ◌≤◌, ◌<◌, compare}
 use native.Mathlib.Nat.{le_of_eq, le_trans, mul_assoc, mul_comm, mul_right_comm, mul-pos, add-mul, mod-lt, mod-eq_of_lt, div-add-mod', eq-zero-or-pos}
 use native.Mathlib.Nat.{lt_of_mul-lt-mul_right, add-zero, zero-mul, le_antisymm, le-add_right}
 use native.Mathlib.Omega.{arith}
 use mathlib.Core.Bool.{Bool}
-use lib.Dec.{T, lit≤, compare_is_eq, eqb, eqb_refl}
+use lib.Dec.{lit≤}
 use lib.Arith.{digits_lt}
 use lib.Pow.{pow-add, pow_pos, shr_lt, shr-shr}
 use lib.Ieee.{Float, binary64, round, nearest}
 use lib.Ieee.Fits.{nearest-le}
 use lib.Ieee.Nearest.{closest}
 use Rattle.law_rounding.specs.Sticky.{Sticky}
-use Rattle.law_rounding.proofs.Numbers.{less_or_not, compare_lt, compare_gt}
+use Rattle.law_rounding.proofs.Numbers.{less_or_not, compare_lt, compare_gt, compare_eq}
 use Rattle.law_rounding.proofs.Sticky.{sticky_cut, sticky_again}
 use Rattle.law_rounding.proofs.Word.{round_word}
 use Rattle.law_rounding.proofs.Values.{round_shift}
 use Rattle.fused_words.proofs.Shift.{Marked, moved}
 use Rattle.fused_pack.specs.Rounds.{Patterned}
-
--- two equal numbers, compared
-compare_eq : (a b : ℕ) → a ≡ b → compare a b ≡ Ordering.eq
-compare_eq a b h = go (compare a b) (subst (λ (x : ℕ). T (eqb a x)) h (eqb_refl a))
-  where
-    go : (o : Ordering) → T (compare_is_eq o) → o ≡ Ordering.eq
-    go Ordering.lt p = absurd p
-    go Ordering.eq p = refl
-    go Ordering.gt p = absurd p
 
 -- half the unit, less one, and one more where the whole part is odd: the sum reaches the next unit just where the whole part is to move up
 pub nearest_is : (w : ℕ) → w / 2048 + (w % 2048 + 1023 + w / 2048 % 2) / 2048 ≡ closest w 2048

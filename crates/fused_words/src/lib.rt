@@ -12,7 +12,7 @@ ghost use Rattle.fused_words.specs.Words.{value};
 use std::cmp::Ordering;
 
 // The weight of a float's sign bit, and of its exponent's field: which is that of the leading digit, too, where
-// the digits are a whole number.
+// the digits are a whole number. (It stays apart from the 2^63 of crates/test_input, which is a number's size.)
 pub const SIGN: u64 = 0x8000_0000_0000_0000;
 
 pub const HIDDEN: u64 = 0x10_0000_0000_0000;

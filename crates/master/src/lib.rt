@@ -14,7 +14,7 @@ use master_questions::master_questions;
 use master_segments::check_segment;
 use rules::PathError;
 
-// A1, M8: whether an answer is yes. (A no is not a refusal, so `is_ok` is another question.)
+// A1, M8: whether an answer is yes. (It stays a function: a no is not a refusal, so std's `is_ok` is another question.)
 #[tactic(auto, unfolding(rules::specs::Master::master_says))]
 pub fn is_yes(answer: Result<bool, PathError>) -> bool
     ensures { result ≡ (master_says answer).good }
@@ -25,7 +25,7 @@ pub fn is_yes(answer: Result<bool, PathError>) -> bool
     }
 }
 
-// M8: whether an answer is a refusal.
+// M8: whether an answer is a refusal. (It stays beside `is_yes`, with what the check's definition says of it.)
 #[tactic(auto, unfolding(rules::specs::Master::master_says))]
 pub fn is_refused(answer: Result<bool, PathError>) -> bool
     ensures { result ≡ (master_says answer).refused }

@@ -39,7 +39,8 @@ pub fn with_byte(reading: NumberReading, b: u8) -> NumberReading
     taken(reading, b)
 }
 
-// The byte at a place, where there is one and the record takes it.
+// The byte at a place, where there is one and the record takes it. (Record, bytes and place stay parameters: the place may lie behind the
+// bytes.)
 pub fn next_byte(reading: NumberReading, bytes: &[u8], at: usize) -> NumberReading
     ensures { result ≡ go_on reading (take 1 (drop at bytes.now)) }
 {
@@ -82,7 +83,7 @@ pub fn with_digits(reading: NumberReading, bytes: &[u8]) -> NumberReading
     kept
 }
 
-// The bytes from a place on, of a record that is in its digits, or takes none of them.
+// The bytes from a place on, of a record that is in its digits, or takes none of them. (The parameters stay, as above.)
 pub fn digits(reading: NumberReading, bytes: &[u8], from: usize) -> NumberReading
     requires { Settled reading (drop from bytes.now) }
     ensures { result ≡ go_on reading (drop from bytes.now) }
