@@ -8,10 +8,10 @@ ghost use Rattle.master_equations.specs.Segment.{Shaped};
 ghost use Rattle.master_questions.specs.Lists.{set_with};
 ghost use Rattle.master.specs.Pass.{pass_says};
 
-use master_equations::{MasterSegments, meets_start};
+use master_equations::{MasterSegments, meets_start_of};
 use master_questions::lists::MasterLists;
 use master_questions::master_questions;
-use master_segments::check_segment;
+use master_segments::check_segment_of;
 use rules::PathError;
 
 // A1, M8: whether an answer is yes. (It stays a function: a no is not a refusal, so std's `is_ok` is another question.)
@@ -48,9 +48,9 @@ fn check_segments<const M: usize>(lists: MasterLists) -> Result<bool, PathError>
         end: lists.end,
         table: lists.table,
     };
-    let mut good = meets_start::<M>(lists.start, lists.table);
+    let mut good = meets_start_of::<M>(lists.start, lists.table);
     for i in 0..lists.waypoints.len() - 1 {
-        good = check_segment(good, segments, i)?;
+        good = check_segment_of(good, segments, i)?;
     }
     Ok(good)
 }

@@ -3,12 +3,12 @@
 // a const parameter, so that the compiler unrolls every loop over a segment's numbers: three times as fast.
 #![tactic(auto)]
 
-ghost use Rattle.std.specs.Prelude.{◌≡◌, ℕ, ◌-◌, ◌<◌, ◌≤◌, length};
+ghost use Rattle.std.specs.Prelude.{◌≡◌, ◌&&◌, ℕ, ◌-◌, ◌<◌, ◌≤◌, length};
 ghost use Rattle.rules.specs.Master.{meets_start};
 ghost use Rattle.master_numbers.specs.Sums.{Summable};
 ghost use Rattle.master_equations.specs.Segment.{Shaped, meets_at, segment_meets};
 
-use master_numbers::sums::sums;
+use master_numbers::sums::sums_of;
 
 // The numbers of a list from place 1 on are, as far as they go, those of another. So the sums at a segment's end
 // are compared with the end state or the next segment's coefficients, and the first segment's with the start state.
@@ -20,11 +20,19 @@ fn meets(sums: &[i64], numbers: &[i64]) -> bool
 }
 
 // R38: coefficients 1 to m of the first segment are the start state.
-pub fn meets_start<const M: usize>(start: &[i64], table: &[i64]) -> bool
+pub fn meets_start_of<const M: usize>(start: &[i64], table: &[i64]) -> bool
     requires { (M ≤ length start.now) × (M < length table.now) }
     ensures { (segments : ℕ) → result ≡ meets_start M segments table.now start.now }
 {
     meets(table, &start[..M])
+}
+
+// The same where m is known only when the program runs.
+pub fn meets_start(m: usize, start: &[i64], table: &[i64]) -> bool
+    requires { (m ≤ length start.now) × (m < length table.now) }
+    ensures { (segments : ℕ) → result ≡ meets_start m segments table.now start.now }
+{
+    meets(table, &start[..m])
 }
 
 // What the segments' equations speak of, in a set whose lengths are as they have to be.
@@ -53,7 +61,7 @@ impl<'a, const M: usize> MasterSegments<'a, M> {
         if is_unlike {
             return false;
         }
-        let sums = sums::<M>(self.table, i);
+        let sums = sums_of::<M>(self.table, i);
         if sums[0] != right {
             return false;
         }
@@ -61,5 +69,42 @@ impl<'a, const M: usize> MasterSegments<'a, M> {
             return meets(&sums, &self.end[..M]); // the last segment
         }
         meets(&sums, &self.table[next + 1..next + 1 + joint])
+    }
+}
+
+// R36, R37, R39, R40: all before is good, and segment i meets its equations, where m is known only when the program runs.
+pub fn segment_meets(
+    before: bool,
+    m: usize,
+    waypoints: &[i64],
+    end: &[i64],
+    table: &[i64],
+    i: usize,
+) -> bool
+    requires { Shaped m waypoints.now end.now table.now × (i < length waypoints.now - 1) × Summable m table.now i }
+    ensures { result ≡ (before && segment_meets m waypoints.now end.now table.now i) }
+{
+    if !before {
+        return false;
+    }
+    match m {
+        1 => MasterSegments::<1> {
+            waypoints,
+            end,
+            table,
+        }
+        .equations_hold(i),
+        2 => MasterSegments::<2> {
+            waypoints,
+            end,
+            table,
+        }
+        .equations_hold(i),
+        _ => MasterSegments::<3> {
+            waypoints,
+            end,
+            table,
+        }
+        .equations_hold(i),
     }
 }

@@ -30,7 +30,7 @@ fn add_up(b: &mut [i64], first: usize, last: usize)
 
 // R35: the sum of C(k,r) × coefficient k of segment i, for r = 0 to 2m. None of the sums on the way, of numbers within
 // ±2^40, comes near 2^63.
-pub fn sums<const M: usize>(table: &[i64], i: usize) -> [i64; 8]
+pub fn sums_of<const M: usize>(table: &[i64], i: usize) -> [i64; 8]
     requires { Summable M table.now i }
     ensures { (r : ℕ) → r < 2 * M + 1 → at result r ≡ at_end M table.now i r }
 {
@@ -40,4 +40,17 @@ pub fn sums<const M: usize>(table: &[i64], i: usize) -> [i64; 8]
         add_up(&mut b, r, last);
     }
     b
+}
+
+// The same where m is known only when the program runs.
+pub fn sums(m: usize, table: &[i64], i: usize) -> [i64; 8]
+    requires { Summable m table.now i }
+    ensures { (r : ℕ) → r < 2 * m + 1 → at result r ≡ at_end m table.now i r }
+{
+    match m {
+        0 => sums_of::<0>(table, i),
+        1 => sums_of::<1>(table, i),
+        2 => sums_of::<2>(table, i),
+        _ => sums_of::<3>(table, i),
+    }
 }

@@ -4,6 +4,7 @@
 
 ghost use Rattle.std.specs.Prelude.{◌≡◌, ◌-◌, ◌<◌, length};
 ghost use Rattle.rules.specs.Master.{master_says};
+ghost use Rattle.master_equations.specs.Segment.{Shaped};
 ghost use Rattle.master_segments.specs.Answer.{segment_says};
 
 use master_equations::MasterSegments;
@@ -12,7 +13,7 @@ use rules::PathError;
 
 // The range of segment i's numbers, and then its equations. Where all before is not good, they are not worked out.
 #[tactic(auto, using(crate::proofs::SegmentSays::by_parts))]
-pub fn check_segment<const M: usize>(
+pub fn check_segment_of<const M: usize>(
     before: bool,
     segments: MasterSegments<M>,
     i: usize,
@@ -30,4 +31,44 @@ pub fn check_segment<const M: usize>(
     }
     let holds = segments.equations_hold(i);
     Ok(holds) // M8: no is not a refusal
+}
+
+// The same where m is known only when the program runs.
+pub fn check_segment(
+    before: bool,
+    m: usize,
+    waypoints: &[i64],
+    end: &[i64],
+    table: &[i64],
+    i: usize,
+) -> Result<bool, PathError>
+    requires { Shaped m waypoints.now end.now table.now × (i < length waypoints.now - 1) }
+    ensures { master_says result ≡ segment_says before m waypoints.now end.now table.now i }
+{
+    match m {
+        1 => {
+            let segments = MasterSegments::<1> {
+                waypoints,
+                end,
+                table,
+            };
+            check_segment_of(before, segments, i)
+        }
+        2 => {
+            let segments = MasterSegments::<2> {
+                waypoints,
+                end,
+                table,
+            };
+            check_segment_of(before, segments, i) // order 5
+        }
+        _ => {
+            let segments = MasterSegments::<3> {
+                waypoints,
+                end,
+                table,
+            };
+            check_segment_of(before, segments, i)
+        }
+    }
 }

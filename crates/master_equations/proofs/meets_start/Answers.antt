@@ -3,4 +3,4 @@ use Rattle.master_equations.proofs.Tests.{start_as_made}
 use Rattle.master_equations.proofs.meets_start.Goals as goal
 
 pub returns : goal.returns
-returns g c segments = c.meets.ensures ∙ start_as_made g.row.M segments c.args.table.now c.args.start.now c.requires.0
+returns c segments = c.meets.ensures ∙ start_as_made c.args.m segments c.args.table.now c.args.start.now c.requires.0

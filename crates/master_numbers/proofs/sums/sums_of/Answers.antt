@@ -1,6 +1,6 @@
 use Rattle.std.proofs.Common.{arith}
 use Rattle.master_numbers.proofs.Horner.{unshifted, sum_fits, turned}
-use Rattle.master_numbers.proofs.sums.sums.Goals as goal
+use Rattle.master_numbers.proofs.sums.sums_of.Goals as goal
 
 pub loop-r-init : goal.loop-r-init
 loop-r-init g c = unshifted _ _ _ _ c.coefficients-b.ensures.0 c.coefficients-b.ensures.1

@@ -1,0 +1,6 @@
+use Rattle.std.proofs.Common.{◌∙◌}
+use Rattle.master_equations.proofs.Tests.{start_as_made}
+use Rattle.master_equations.proofs.meets_start_of.Goals as goal
+
+pub returns : goal.returns
+returns g c segments = c.meets.ensures ∙ start_as_made g.row.M segments c.args.table.now c.args.start.now c.requires.0
