@@ -19,7 +19,8 @@ fn meets(sums: &[i64], numbers: &[i64]) -> bool
     &sums[1..numbers.len() + 1] == numbers
 }
 
-// R38: coefficients 1 to m of the first segment are the start state.
+// R38: coefficients 1 to m of the first segment are the start state. (The two lists stay parameters: they are all of a set that it looks
+// at.)
 pub fn meets_start_of<const M: usize>(start: &[i64], table: &[i64]) -> bool
     requires { (M ≤ length start.now) × (M < length table.now) }
     ensures { (segments : ℕ) → result ≡ meets_start M segments table.now start.now }
@@ -27,7 +28,7 @@ pub fn meets_start_of<const M: usize>(start: &[i64], table: &[i64]) -> bool
     meets(table, &start[..M])
 }
 
-// The same where m is known only when the program runs.
+// The same where m is known only when the program runs. (The parameters stay, as above.)
 pub fn meets_start(m: usize, start: &[i64], table: &[i64]) -> bool
     requires { (m ≤ length start.now) × (m < length table.now) }
     ensures { (segments : ℕ) → result ≡ meets_start m segments table.now start.now }
@@ -72,7 +73,8 @@ impl<'a, const M: usize> MasterSegments<'a, M> {
     }
 }
 
-// R36, R37, R39, R40: all before is good, and segment i meets its equations, where m is known only when the program runs.
+// R36, R37, R39, R40: all before is good, and segment i meets its equations, where m is known only when the program runs. (The match stays,
+// since no number becomes a const parameter, and so do the parameters: a caller's lists need no `MasterSegments`.)
 pub fn segment_meets(
     before: bool,
     m: usize,

@@ -42,7 +42,8 @@ pub fn sums_of<const M: usize>(table: &[i64], i: usize) -> [i64; 8]
     b
 }
 
-// The same where m is known only when the program runs.
+// The same where m is known only when the program runs. (The match stays, since no number becomes a const parameter, and so do the three
+// parameters.)
 pub fn sums(m: usize, table: &[i64], i: usize) -> [i64; 8]
     requires { Summable m table.now i }
     ensures { (r : ℕ) → r < 2 * m + 1 → at result r ≡ at_end m table.now i r }

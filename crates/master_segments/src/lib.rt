@@ -11,7 +11,8 @@ use master_equations::MasterSegments;
 use master_numbers::range::all_within;
 use rules::PathError;
 
-// The range of segment i's numbers, and then its equations. Where all before is not good, they are not worked out.
+// The range of segment i's numbers, and then its equations. Where all before is not good, they are not worked out. (That all before is
+// good stays beside the place: both are others at each call.)
 #[tactic(auto, using(crate::proofs::SegmentSays::by_parts))]
 pub fn check_segment_of<const M: usize>(
     before: bool,
@@ -33,7 +34,8 @@ pub fn check_segment_of<const M: usize>(
     Ok(holds) // M8: no is not a refusal
 }
 
-// The same where m is known only when the program runs.
+// The same where m is known only when the program runs. (The match stays, since no number becomes a const parameter, and so do the
+// parameters: a caller's lists need no `MasterSegments`.)
 pub fn check_segment(
     before: bool,
     m: usize,
