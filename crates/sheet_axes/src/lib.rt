@@ -3,6 +3,7 @@
 #![tactic(auto)]
 
 ghost use Rattle.std.specs.Prelude.{◌≡◌};
+ghost use Rattle.sheet_reading.specs.Says.{Stands};
 ghost use Rattle.sheet_axes.specs.Says.{AxesSay};
 
 use rules::SheetError;
@@ -37,6 +38,7 @@ pub fn read_axes(
 ) -> Result<AxesRead, SheetError>
     ensures same { cursor.new.text.now ≡ cursor.old.text.now }
     ensures says { AxesSay cursor.old.text.now cursor.old.at result points.new start.new end.new }
+    ensures stands { Stands cursor.new.at result }
 {
     let mut sofar = None;
     for k in 0..MOST_AXES {

@@ -8,6 +8,7 @@
 ghost use Rattle.std.specs.Prelude.{◌≡◌, ◌≤◌, length};
 ghost use Rattle.rules.specs.Sheets.{bytes, within, below4};
 ghost use Rattle.rules.specs.SheetReading.{read_end};
+ghost use Rattle.sheet_reading.specs.Says.{Stands};
 ghost use Rattle.sheet_axis.specs.Says.{led_list, ListSays, StatesSay, AxisSays};
 
 use rules::SheetError;
@@ -29,6 +30,7 @@ fn led(cursor: &mut Cursor, w: &[u8], out: &mut [i64]) -> Result<Count, SheetErr
     ensures same { cursor.new.text.now ≡ cursor.old.text.now }
     ensures says { ListSays (led_list w.now) w.now (bytes "")
         cursor.old.text.now cursor.old.at out.old cursor.new.at result out.new }
+    ensures stands { Stands cursor.new.at result }
 {
     word(cursor, w)?;
     list(cursor, 0, out, 0)
@@ -40,6 +42,7 @@ fn ending(cursor: &mut Cursor, out: &mut [i64]) -> Result<Count, SheetError>
     ensures same { cursor.new.text.now ≡ cursor.old.text.now }
     ensures says { ListSays (read_end within below4) (bytes " (end ") (bytes ")\n")
         cursor.old.text.now cursor.old.at out.old cursor.new.at result out.new }
+    ensures stands { Stands cursor.new.at result }
 {
     let last = led(cursor, b" (end ", out)?;
     word(cursor, b")\n")?;
@@ -52,6 +55,7 @@ fn states(cursor: &mut Cursor, start: &mut [i64], end: &mut [i64]) -> Result<Sta
     ensures same { cursor.new.text.now ≡ cursor.old.text.now }
     ensures says { StatesSay cursor.old.text.now cursor.old.at start.old end.old
         cursor.new.at result start.new end.new }
+    ensures stands { Stands cursor.new.at result }
 {
     let first = led(cursor, b" (start ", start)?;
     let last = ending(cursor, end)?;
@@ -72,6 +76,7 @@ pub fn axis(
     ensures same { cursor.new.text.now ≡ cursor.old.text.now }
     ensures says { AxisSays cursor.old.text.now cursor.old.at points.old start.old end.old
         cursor.new.at result points.new start.new end.new }
+    ensures stands { Stands cursor.new.at result }
 {
     let first = led(cursor, b"(axis (points ", points)?;
     let close = cursor.at - 1;

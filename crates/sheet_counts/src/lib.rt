@@ -4,7 +4,7 @@
 
 ghost use Rattle.std.specs.Prelude.{◌≡◌, ◌+◌, length, drop};
 ghost use Rattle.rules.specs.SheetReading as reading;
-ghost use Rattle.sheet_reading.specs.Says.{read_of, IsInside};
+ghost use Rattle.sheet_reading.specs.Says.{read_of, IsInside, Stands};
 ghost use Rattle.sheet_counts.specs.Says.{CountedSmall};
 
 use rules::SheetError;
@@ -20,6 +20,7 @@ fn count(cursor: &mut Cursor) -> Result<usize, SheetError>
     ensures same { cursor.new.text.now ≡ cursor.old.text.now }
     ensures says { read_of cursor.old.text.now cursor.new.at result ≡ reading.count (drop cursor.old.at cursor.old.text.now) }
     ensures inside { IsInside (cursor.old.at + 1) (length cursor.old.text.now) cursor.new.at result }
+    ensures stands { Stands cursor.new.at result }
     ensures small { CountedSmall result }
 {
     match positive(cursor, MOST) {
@@ -33,6 +34,7 @@ pub fn head(cursor: &mut Cursor) -> Result<usize, SheetError>
     ensures same { cursor.new.text.now ≡ cursor.old.text.now }
     ensures says { read_of cursor.old.text.now cursor.new.at result ≡ reading.head (drop cursor.old.at cursor.old.text.now) }
     ensures inside { IsInside (cursor.old.at + 1) (length cursor.old.text.now) cursor.new.at result }
+    ensures stands { Stands cursor.new.at result }
     ensures small { CountedSmall result }
 {
     word(cursor, b"again ")?;

@@ -4,6 +4,7 @@
 ghost use Rattle.std.specs.Prelude.{◌≡◌};
 ghost use Rattle.rules.specs.Sheets.{bytes, within, below4};
 ghost use Rattle.rules.specs.SheetReading.{read_upper};
+ghost use Rattle.sheet_reading.specs.Says.{Stands};
 ghost use Rattle.sheet_heading.specs.Says.{led_number, NumberSays, HeadingSays};
 
 use rules::SheetError;
@@ -25,6 +26,7 @@ fn led_number(cursor: &mut Cursor, w: &[u8]) -> Result<i64, SheetError>
     ensures same { cursor.new.text.now ≡ cursor.old.text.now }
     ensures says { NumberSays (led_number w.now) w.now (bytes "")
         cursor.old.text.now cursor.old.at cursor.new.at result }
+    ensures stands { Stands cursor.new.at result }
 {
     word(cursor, w)?;
     number(cursor)
@@ -35,6 +37,7 @@ fn upper(cursor: &mut Cursor) -> Result<i64, SheetError>
     ensures same { cursor.new.text.now ≡ cursor.old.text.now }
     ensures says { NumberSays (read_upper within below4) (bytes " ") (bytes ")\n")
         cursor.old.text.now cursor.old.at cursor.new.at result }
+    ensures stands { Stands cursor.new.at result }
 {
     let to = led_number(cursor, b" ")?;
     word(cursor, b")\n")?;
@@ -45,6 +48,7 @@ fn upper(cursor: &mut Cursor) -> Result<i64, SheetError>
 pub fn heading(cursor: &mut Cursor) -> Result<HeadingNumbers, SheetError>
     ensures same { cursor.new.text.now ≡ cursor.old.text.now }
     ensures says { HeadingSays cursor.old.text.now cursor.old.at cursor.new.at result }
+    ensures stands { Stands cursor.new.at result }
 {
     Ok(HeadingNumbers {
         order: led_number(cursor, b"(order ")?,

@@ -7,6 +7,7 @@
 #![tactic(auto)]
 
 ghost use Rattle.std.specs.Prelude.{◌≡◌, ◌≤◌, cond, length, ltb, slice_get, Some};
+ghost use Rattle.sheet_reading.specs.Says.{Stands};
 ghost use Rattle.sheet_items.specs.Says.{Opened, NumberFilled, ItemFilled, ListFilled, Following};
 
 use rules::{PathError, SheetError};
@@ -20,6 +21,7 @@ fn open_form(cursor: &mut Cursor, depth: usize) -> Result<usize, SheetError>
     requires { slice_get cursor.old.text.now cursor.old.at ≡ Some 40 }
     ensures same { cursor.new.text.now ≡ cursor.old.text.now }
     ensures says { Opened cursor.old.text.now cursor.old.at depth cursor.new.at result }
+    ensures stands { Stands cursor.new.at result }
 {
     if MOST_DEEP <= depth {
         return Err(SheetError {
@@ -36,6 +38,7 @@ fn number_item(cursor: &mut Cursor, out: &mut [i64], at: usize) -> Result<usize,
     requires { at ≤ length out.old }
     ensures same { cursor.new.text.now ≡ cursor.old.text.now }
     ensures says { NumberFilled cursor.old.text.now cursor.old.at out.old at cursor.new.at result out.new }
+    ensures stands { Stands cursor.new.at result }
 {
     let z = sheet_numbers::number(cursor)?;
     Ok(sheet_puts::push(out, at, z))
@@ -45,6 +48,7 @@ fn number_item(cursor: &mut Cursor, out: &mut [i64], at: usize) -> Result<usize,
 fn more(cursor: &mut Cursor) -> Result<bool, SheetError>
     ensures same { cursor.new.text.now ≡ cursor.old.text.now }
     ensures says { Following cursor.old.text.now cursor.old.at cursor.new.at result }
+    ensures stands { Stands cursor.new.at result }
 {
     if cursor.eat(b' ') {
         return Ok(true);
@@ -62,27 +66,65 @@ fn later(end: usize, room: usize, place: usize, over: usize) -> usize
     if end < room { place } else { over }
 }
 
-// F12, J4, J5: an item inside `depth` forms, and where its numbers end in the buffer; for a form the list routine is called, and what
-// it has written is written n times over. (A form moves a copy of the cursor, which is put back: see `list`.)
+// J4, J5: a form inside `depth` others, and where its numbers end in the buffer: the list routine is called, and what it has written is
+// written n times over.
+#[cycle(item_list)]
+fn form(cursor: &mut Cursor, depth: usize, out: &mut [i64], at: usize) -> Result<usize, SheetError>
+    requires { (slice_get cursor.old.text.now cursor.old.at ≡ Some 40) × (at ≤ length out.old) × (length out.old ≤ 258) }
+    ensures same { cursor.new.text.now ≡ cursor.old.text.now }
+    ensures says { ItemFilled cursor.old.text.now cursor.old.at depth out.old at cursor.new.at result out.new }
+    ensures stands { Stands cursor.new.at result }
+{
+    let times = open_form(cursor, depth)?;
+    let inner = list(cursor, depth + 1, out, at)?;
+    Ok(sheet_puts::repeat(out, at, inner.numbers, times))
+}
+
+// F12, J4: an item inside `depth` forms, and where its numbers end in the buffer. (A form moves a copy of the cursor, which is put back,
+// read or refused: see `list`.)
 #[cycle(item_list)]
 fn item(cursor: &mut Cursor, depth: usize, out: &mut [i64], at: usize) -> Result<usize, SheetError>
     requires { (at ≤ length out.old) × (length out.old ≤ 258) }
     ensures same { cursor.new.text.now ≡ cursor.old.text.now }
     ensures says { ItemFilled cursor.old.text.now cursor.old.at depth out.old at cursor.new.at result out.new }
+    ensures stands { Stands cursor.new.at result }
 {
     if cursor.byte() != Some(b'(') {
         return number_item(cursor, out, at);
     }
     let mut inside = *cursor;
-    let times = open_form(&mut inside, depth)?;
-    let inner = list(&mut inside, depth + 1, out, at)?;
+    let end = form(&mut inside, depth, out, at);
     *cursor = inside;
-    Ok(sheet_puts::repeat(out, at, inner.numbers, times))
+    end
 }
 
-// F12, J6: a list inside `depth` forms, with its closing bracket: one item after the other, each read by the item routine. (The loop
-// stays: an iterator over the items would have to hold both the cursor and the buffer. It moves a copy of the cursor, which is put
-// back at the end: with the cursor itself, sheets took 1.1 to 1.3 times as long.)
+// F12, J6: the items of a list inside `depth` forms, up to its closing bracket: one after the other, each read by the item routine. (The
+// loop stays: an iterator over the items would have to hold both the cursor and the buffer.)
+#[cycle(item_list)]
+fn items(
+    cursor: &mut Cursor,
+    depth: usize,
+    out: &mut [i64],
+    at: usize,
+) -> Result<Count, SheetError>
+    requires { (at ≤ length out.old) × (length out.old ≤ 258) }
+    ensures same { cursor.new.text.now ≡ cursor.old.text.now }
+    ensures says { ListFilled cursor.old.text.now cursor.old.at depth out.old at cursor.new.at result out.new }
+    ensures stands { Stands cursor.new.at result }
+{
+    let mut numbers = at;
+    let mut over = cursor.at;
+    loop {
+        over = later(numbers, out.len(), cursor.at, over);
+        numbers = item(cursor, depth, out, numbers)?;
+        if !more(cursor)? {
+            return Ok(Count { numbers, over });
+        }
+    }
+}
+
+// F12, J6: a list inside `depth` forms, with its closing bracket. (The items move a copy of the cursor, which is put back, read or
+// refused: with the cursor itself, sheets took 1.1 to 1.3 times as long.)
 #[cycle(item_list)]
 pub fn list(
     cursor: &mut Cursor,
@@ -93,16 +135,10 @@ pub fn list(
     requires { (at ≤ length out.old) × (length out.old ≤ 258) }
     ensures same { cursor.new.text.now ≡ cursor.old.text.now }
     ensures says { ListFilled cursor.old.text.now cursor.old.at depth out.old at cursor.new.at result out.new }
+    ensures stands { Stands cursor.new.at result }
 {
     let mut here = *cursor;
-    let mut numbers = at;
-    let mut over = here.at;
-    loop {
-        over = later(numbers, out.len(), here.at, over);
-        numbers = item(&mut here, depth, out, numbers)?;
-        if !more(&mut here)? {
-            *cursor = here;
-            return Ok(Count { numbers, over });
-        }
-    }
+    let read = items(&mut here, depth, out, at);
+    *cursor = here;
+    read
 }

@@ -5,7 +5,7 @@ ghost use Rattle.std.specs.Prelude.{◌≡◌, ◌+◌, ◌<◌, ◌^◌, ◌≤
 ghost use Rattle.rules.specs.Sheets.{within};
 ghost use Rattle.rules.specs.SheetReading as reading;
 ghost use Rattle.sheet_decimals.specs.Says.{DecimalSmall};
-ghost use Rattle.sheet_reading.specs.Says.{read_of, IsInside};
+ghost use Rattle.sheet_reading.specs.Says.{read_of, IsInside, Stands};
 ghost use Rattle.sheet_numbers.specs.Says.{PositiveSays, plain_at, WholeSmall};
 
 use rules::{PathError, SheetError};
@@ -29,21 +29,25 @@ pub fn positive(cursor: &mut Cursor, limit: u64) -> Result<u64, DecimalError>
     }
 }
 
-// J22: digits as the number that starts at `start`: past the limit it is 4 there, and not at the digit.
+// J22: digits as the number that starts at `start`: past the limit it is 4 there, and not at the digit, so the cursor goes back.
 fn plain(cursor: &mut Cursor, start: usize) -> Result<i64, SheetError>
     requires { start ≤ cursor.old.at }
     ensures same { cursor.new.text.now ≡ cursor.old.text.now }
     ensures says { read_of cursor.old.text.now cursor.new.at result ≡ plain_at cursor.old.text.now start cursor.old.at }
     ensures inside { IsInside (cursor.old.at + 1) (length cursor.old.text.now) cursor.new.at result }
+    ensures stands { Stands cursor.new.at result }
     ensures small { WholeSmall result }
 {
     match positive(cursor, LIMIT) {
         Ok(n) => Ok(n as i64),
         Err(DecimalError::Missing) => Err(invalid_sheet(cursor.at)),
-        Err(DecimalError::Over) => Err(SheetError {
-            cause: PathError::InvalidArgument,
-            at: start,
-        }),
+        Err(DecimalError::Over) => {
+            cursor.at = start;
+            Err(SheetError {
+                cause: PathError::InvalidArgument,
+                at: start,
+            })
+        }
     }
 }
 
@@ -55,6 +59,7 @@ pub fn number(cursor: &mut Cursor) -> Result<i64, SheetError>
     ensures same { cursor.new.text.now ≡ cursor.old.text.now }
     ensures says { read_of cursor.old.text.now cursor.new.at result ≡ reading.number within (drop cursor.old.at cursor.old.text.now) }
     ensures inside { IsInside (cursor.old.at + 1) (length cursor.old.text.now) cursor.new.at result }
+    ensures stands { Stands cursor.new.at result }
     ensures small { WholeSmall result }
 {
     let start = cursor.at;

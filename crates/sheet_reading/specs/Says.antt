@@ -1,5 +1,5 @@
 -- What an answer says in the terms of the judge of job sheets. Assumes nothing.
-use Rattle.std.specs.Prelude.{◌≡◌, ◌≢◌, Bool, true, false, List, ℕ, ◌+◌, ◌≤◌, drop, slice_get, Some, Result, Ok, Err}
+use Rattle.std.specs.Prelude.{◌≡◌, ◌≢◌, Bool, true, false, List, ℕ, ◌+◌, ◌≤◌, drop, slice_get, Some, Result, Ok, Err, IfErr}
 use Rattle.rules.specs.declared.PathError.TheVariants.{InvalidSheet}
 use Rattle.rules.specs.declared.SheetError.{SheetError}
 use Rattle.rules.specs.Questions.{number_of}
@@ -22,6 +22,10 @@ read_of text next (Err e) = stop_at text e
 abbrev pub IsInside : {A : Type 0} → ℕ → ℕ → ℕ → Result A SheetError → Type 0
 IsInside from len next (Ok a) = from ≤ next
 IsInside from len next (Err e) = e.at ≤ len
+
+-- after a refusal a text was read up to the refusal's place
+abbrev pub Stands : {A : Type 0} → ℕ → Result A SheetError → Type 0
+Stands next result = IfErr result (λ e. next ≡ e.at)
 
 -- a byte of a text is passed, where it stands
 abbrev pub Passed : List ℕ → ℕ → ℕ → ℕ → Bool → Type 0

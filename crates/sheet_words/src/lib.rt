@@ -3,7 +3,7 @@
 
 ghost use Rattle.std.specs.Prelude.{◌≡◌, length, drop};
 ghost use Rattle.rules.specs.SheetReading as reading;
-ghost use Rattle.sheet_reading.specs.Says.{read_of, IsInside};
+ghost use Rattle.sheet_reading.specs.Says.{read_of, IsInside, Stands};
 
 use rules::SheetError;
 use sheet_reading::{Cursor, invalid_sheet};
@@ -16,6 +16,7 @@ pub fn word(cursor: &mut Cursor, w: &[u8]) -> Result<(), SheetError>
     ensures same { cursor.new.text.now ≡ cursor.old.text.now }
     ensures says { read_of cursor.old.text.now cursor.new.at result ≡ reading.word w.now (drop cursor.old.at cursor.old.text.now) }
     ensures inside { IsInside cursor.old.at (length cursor.old.text.now) cursor.new.at result }
+    ensures stands { Stands cursor.new.at result }
 {
     for &b in w {
         if !cursor.eat(b) {
