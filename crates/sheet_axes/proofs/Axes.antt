@@ -23,7 +23,7 @@ use Rattle.sheet_items.proofs.Lists.{then_then}
 use Rattle.sheet_puts.specs.Put.{put}
 use Rattle.sheet_sizes.specs.declared.AxisSizes.{AxisSizes}
 use Rattle.sheet_axis.specs.Says.{Stops, AxisTo}
-use Rattle.sheet_sizes.specs.Sizes.{fault_of, with_axis}
+use Rattle.sheet_sizes.specs.Sizes.{first_fault, axes_with}
 use Rattle.sheet_reading.specs.Says.{invalid_at}
 use Rattle.sheet_sizes.specs.declared.AxesSizes.{AxesSizes}
 use Rattle.sheet_axes.specs.Says.{first_of, said, Clean, AxesTo}
@@ -79,10 +79,10 @@ more_sizes k z y =
       points = count;
       start = together_of k z.start y.start.numbers;
       end = together_of k z.end y.end.numbers;
-      fault = option_or z.fault (fault_of y count);
+      fault = option_or z.fault (first_fault y count);
     }
 
-pub with_is : (o : Option AxesSizes) (k : ℕ) (y : AxisSizes) → IsCounted o k → with_axis o y ≡ more_sizes k (counted_in o) y
+pub with_is : (o : Option AxesSizes) (k : ℕ) (y : AxisSizes) → IsCounted o k → axes_with o y ≡ more_sizes k (counted_in o) y
 with_is None k y e = rw (eq-eqb k 0 e)
 with_is (Some z) k y e = rw (ne_eqb k 0 (λ i. omega arith))
 
@@ -200,7 +200,7 @@ module _ (text : List ℕ) (from k place : ℕ) (z : AxesSizes) (points start en
 
         go : (f : Option SheetError) → z.fault ≡ f
             → option_or (said f) (first_of (axis_sizes c place (axis t.pts (states t.starts t.ends)) ++ rest))
-            ≡ option_or (said (option_or f (fault_of y (cond (eqb k 0) y.points.numbers z.points)))) (first_of rest)
+            ≡ option_or (said (option_or f (first_fault y (cond (eqb k 0) y.points.numbers z.points)))) (first_of rest)
         go None e =
             axis_fault text place (part_of k 258 points) (part_of k 4 start) (part_of k 4 end) long_p long_q long_r y after p q r t c
             (cond (eqb k 0) y.points.numbers z.points) (same e) rest
@@ -225,8 +225,8 @@ module _ (text : List ℕ) (from k place : ℕ) (z : AxesSizes) (points start en
       end_held = kept 4 end_of end r old.end_held (omega (arith, is.3, list_size t.ends)) (list_near t.ends 0 t.end_in.valid) t.end_in.holds;
     }
       where
-        both : (z.fault ≡ None) × (fault_of y count ≡ None)
-        both = neither z.fault (fault_of y count) h
+        both : (z.fault ≡ None) × (first_fault y count ≡ None)
+        both = neither z.fault (first_fault y count) h
 
         old : Sound s.done k z points start end
         old = s.clean both.0
@@ -286,7 +286,7 @@ module _ (text : List ℕ) (from k place : ℕ) (z : AxesSizes) (points start en
     counts_next : sizes.fault ≡ None → (axes : Axes) → first_count (s.pre (next ax axes)) ≡ cond (eqb (k + 1) 0) (first_count axes) sizes.points
     unfolding count
     counts_next e axes =
-        let (none-before, none) = neither z.fault (fault_of y count) e in
+        let (none-before, none) = neither z.fault (first_fault y count) e in
         let is = no_fault_means text place (part_of k 258 points) (part_of k 4 start) (part_of k 4 end) long_p long_q long_r y after p q r t count none in
         let x = exact _ 257 (part_of k 258 points) t.pts y.points p long_p t.points_in is.0 in
         counted none-before axes ∙ rw (ne_eqb (k + 1) 0 (λ i. omega arith), x)

@@ -19,7 +19,7 @@ use Rattle.sheet_items.proofs.Lists.{over_here, over_later}
 use Rattle.sheet_sizes.specs.declared.AxisSizes.{AxisSizes}
 use Rattle.sheet_axis.specs.Says.{ListIn, AxisTo}
 use Rattle.sheet_reading.specs.declared.Count.{Count}
-use Rattle.sheet_sizes.specs.Sizes.{fault_of}
+use Rattle.sheet_sizes.specs.Sizes.{first_fault}
 use Rattle.sheet_axes.specs.Says.{first_of, said}
 
 abbrev place_of : ℕ → ℕ → Option Refusal
@@ -157,7 +157,7 @@ noted false true true v a b d e = refl
 noted false true false true a b d e = refl
 noted false true false false a b d e = refl
 
-fault_is : (z : AxisSizes) (count : ℕ) → said (fault_of z count)
+fault_is : (z : AxisSizes) (count : ℕ) → said (first_fault z count)
     ≡ chosen (leb 258 z.points.numbers) (eqb z.points.numbers count) (leb 4 z.start.numbers) (leb 4 z.end.numbers) z.points.over z.start.over z.end.over
     z.close None
 fault_is z count = noted (leb 258 z.points.numbers) (eqb z.points.numbers count) (leb 4 z.start.numbers) (leb 4 z.end.numbers) _ _ _ _
@@ -175,7 +175,7 @@ module _ (text : List ℕ) (place : ℕ) (points start end : List ℤ) (lp : len
   in_end = full _ 3 end t.ends z.end d le t.end_in
 
   -- what is left where there is no fault
-  pub no_fault_means : (count : ℕ) → fault_of z count ≡ None
+  pub no_fault_means : (count : ℕ) → first_fault z count ≡ None
       → (size t.pts ≤ 257) × (z.points.numbers ≡ count) × (size t.starts ≤ 3) × (size t.ends ≤ 3)
   no_fault_means count h =
       let (p, q, s, e) = no_fault (leb 258 z.points.numbers) (eqb z.points.numbers count) (leb 4 z.start.numbers) (leb 4 z.end.numbers) _ _ _ _
@@ -195,7 +195,7 @@ module _ (text : List ℕ) (place : ℕ) (points start end : List ℤ) (lp : len
   )
 
   pub axis_fault : (c count : ℕ) → (size t.pts ≤ 257 → eqb z.points.numbers count ≡ eqb (size t.pts) c) → (rest : List Refusal)
-      → first_of (axis_sizes c place (axis t.pts (states t.starts t.ends)) ++ rest) ≡ option_or (said (fault_of z count)) (first_of rest)
+      → first_of (axis_sizes c place (axis t.pts (states t.starts t.ends)) ++ rest) ≡ option_or (said (first_fault z count)) (first_of rest)
   axis_fault c count same rest =
       axis_first c place t.pts t.starts t.ends rest
       ∙ go (ltb 257 (size t.pts)) refl

@@ -9,7 +9,7 @@ ghost use Rattle.sheet_axes.specs.Says.{AxesSay};
 use rules::SheetError;
 use sheet_axis::axis;
 use sheet_reading::{Cursor, invalid_sheet};
-use sheet_sizes::{AxesSizes, TOO_MANY_NUMBERS, TOO_MANY_POINTS, with_axis};
+use sheet_sizes::{AxesSizes, TOO_MANY_NUMBERS, TOO_MANY_POINTS, axes_with};
 
 // How many axes there are and what was counted on them (crates/sheet_sizes).
 #[derive(Clone, Copy)]
@@ -50,7 +50,7 @@ pub fn read_axes(
             &mut start[b..b + TOO_MANY_NUMBERS],
             &mut end[b..b + TOO_MANY_NUMBERS],
         )?;
-        let sizes = with_axis(sofar, read);
+        let sizes = axes_with(sofar, read);
         if cursor.at == cursor.text.len() {
             return Ok(AxesRead { axes: k + 1, sizes });
         }

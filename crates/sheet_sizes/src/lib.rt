@@ -3,7 +3,7 @@
 #![tactic(auto)]
 
 ghost use Rattle.std.specs.Prelude.{◌≡◌};
-ghost use Rattle.sheet_sizes.specs.Sizes.{too_many, unlike, fault_of, together, with_axis};
+ghost use Rattle.sheet_sizes.specs.Sizes.{too_many, unlike, first_fault, together, axes_with, counted, earliest, with_axis};
 
 use rules::{PathError, SheetError};
 use sheet_reading::Count;
@@ -25,6 +25,17 @@ pub struct AxesSizes {
     pub start: usize,
     pub end: usize,
     pub fault: Option<SheetError>,
+}
+
+// The same of any number of axes, none too. (The refusal stays a number, 0 where there is none, with its place: a caller may keep one that
+// no `PathError` has.)
+#[derive(Clone, Copy)]
+pub struct SizesSofar {
+    pub points: usize,
+    pub start: usize,
+    pub end: usize,
+    pub number: u32,
+    pub at: usize,
 }
 
 // J23: "the 258th point". A buffer has room for so many of each axis, and is full where there are too many.
@@ -60,8 +71,8 @@ fn unlike(z: AxisSizes, count: usize) -> Option<SheetError>
 }
 
 // J23, J24: the first of them in the order of the text.
-fn fault_of(z: AxisSizes, count: usize) -> Option<SheetError>
-    ensures { result ≡ fault_of z count }
+fn first_fault(z: AxisSizes, count: usize) -> Option<SheetError>
+    ensures { result ≡ first_fault z count }
 {
     too_many(TOO_MANY_POINTS, z.points)
         .or(unlike(z, count))
@@ -77,21 +88,66 @@ fn together(sofar: usize, n: usize) -> usize
 }
 
 // One axis more. J23, J24: the earliest refusal stays.
-pub fn with_axis(sofar: Option<AxesSizes>, z: AxisSizes) -> AxesSizes
-    ensures { result ≡ with_axis sofar z }
+pub fn axes_with(sofar: Option<AxesSizes>, z: AxisSizes) -> AxesSizes
+    ensures { result ≡ axes_with sofar z }
 {
     match sofar {
         None => AxesSizes {
             points: z.points.numbers,
             start: z.start.numbers,
             end: z.end.numbers,
-            fault: fault_of(z, z.points.numbers),
+            fault: first_fault(z, z.points.numbers),
         },
         Some(axes) => AxesSizes {
             points: axes.points,
             start: together(axes.start, z.start.numbers),
             end: together(axes.end, z.end.numbers),
-            fault: axes.fault.or(fault_of(z, axes.points)),
+            fault: axes.fault.or(first_fault(z, axes.points)),
         },
+    }
+}
+
+// What was counted on k axes, if there were any, but no refusal: one may be there before the first axis, and is `earliest`'s.
+fn counted(k: usize, sofar: SizesSofar) -> Option<AxesSizes>
+    ensures { result ≡ counted k sofar }
+{
+    if k == 0 {
+        return None;
+    }
+    Some(AxesSizes {
+        points: sofar.points,
+        start: sofar.start,
+        end: sofar.end,
+        fault: None,
+    })
+}
+
+// J23, J24: the earliest refusal, its number and its place. (The number stays one, as it stands in `SizesSofar`.)
+fn earliest(sofar: SizesSofar, fault: Option<SheetError>) -> (u32, usize)
+    ensures number { result.0 ≡ (earliest sofar fault).number }
+    ensures at { result.1 ≡ (earliest sofar fault).at }
+{
+    if sofar.number != 0 {
+        return (sofar.number, sofar.at);
+    }
+    match fault {
+        None => (0, 0),
+        Some(e) => (u32::from(e.cause), e.at),
+    }
+}
+
+// One axis more behind k axes, whatever was refused before. J23, J24: the earliest refusal stays.
+#[tactic(auto, using(crate::proofs::Numbers::with_is))]
+pub fn with_axis(k: usize, sofar: SizesSofar, z: AxisSizes) -> SizesSofar
+    ensures { result ≡ with_axis k sofar z }
+{
+    let axes = axes_with(counted(k, sofar), z);
+    let (number, at) = earliest(sofar, axes.fault);
+    SizesSofar {
+        points: axes.points,
+        start: axes.start,
+        end: axes.end,
+        number,
+        at,
     }
 }

@@ -32,7 +32,7 @@ returns-then-cursor-clause-says c =
     let here = c.args.cursor.now in
     let l = c.loop-k in
     let i = l.invariant in
-    let is = c.with_axis-sizes.ensures ∙ with_is l.sofar l.k c.in_ok-read.read i.counted in
+    let is = c.axes_with-sizes.ensures ∙ with_is l.sofar l.k c.in_ok-read.read i.counted in
     let long = ap (λ t. length t) (c.in_ok-read.ensures.same ∙ i.same) in
     let ended : length here.text.now ≤ c.axis.new.cursor.at = omega (arith, long, c.if-cursor.true) in
     rw is
@@ -46,7 +46,7 @@ loop-k-preserved c =
     let i = l.invariant in
     let room = c.loop-k-test.true in
     let one : 1 ≤ l.k + 1 = omega arith in
-    let is = c.with_axis-sizes.ensures ∙ with_is l.sofar l.k c.in_ok-read.read i.counted in
+    let is = c.axes_with-sizes.ensures ∙ with_is l.sofar l.k c.in_ok-read.read i.counted in
     let same = c.in_ok-read.ensures.same ∙ i.same in
     let long = ap (λ t. length t) same in
     let on : c.axis.new.cursor.at < length here.text.now = omega (arith, long, c.if-cursor.false, c.axis.new.cursor.inside) in
