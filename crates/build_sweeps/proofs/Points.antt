@@ -1,10 +1,14 @@
 -- A point of an axis is a waypoint. Assumes nothing.
 use mathlib.Core.Path.{◌≡◌, ap₂}
-use Prim.Native.Nat.{ℕ, suc, ◌+◌, ◌<◌}
+use mathlib.Core.List.{List}
+use Prim.Native.Nat.{ℕ, suc, ◌+◌, ◌*◌, ◌<◌}
 use native.Mathlib.Omega.{arith}
+use lib.ListN.{length}
+use lib.Ieee.{Float}
 use Rattle.rules.specs.Floats.{◌⊖◌, ◌!◌, +0}
 use Rattle.rules.specs.Build.{of_axis, dy}
 use Rattle.law_lists.proofs.Filling.{listed_at}
+use Rattle.law_lists.proofs.Places.{cell_inside}
 use Rattle.build_rhs.specs.declared.AxisWaypoints.{AxisWaypoints}
 use Rattle.build_sweeps.specs.OfAxis.{points_of}
 
@@ -17,3 +21,8 @@ module _ (n : ℕ) (points : AxisWaypoints) where
       ≡ of_axis points.axes points.waypoints.now points.axis (suc i) ⊖ of_axis points.axes points.waypoints.now points.axis i
   unfolding dy
   points_dy i h = ap₂ ◌⊖◌ (points_at (suc i) h) (points_at i (omega arith))
+
+-- its place is in the list, by `below` of an `AxisWaypoints` and `points_length` of an `Axis`
+pub point_inside : (n axes axis : ℕ) (waypoints : List Float) → axis < axes → length waypoints ≡ (n + 2) * axes
+    → (k : ℕ) → k < n + 2 → k * axes + axis < length waypoints
+point_inside n axes axis waypoints b e k l = rw e (cell_inside axes l b)

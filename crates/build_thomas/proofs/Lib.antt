@@ -1,1 +1,2 @@
 pub mod AxisIs
+pub mod Sizes

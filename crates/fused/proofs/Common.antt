@@ -227,3 +227,7 @@ common_shifted x y z n far q w r e common d m k v b t f =
     (subst (λ (i : ℕ). Sticky (2 ^ i) ((2 ^ 52 + x % 2 ^ 52) * (2 ^ 52 + y % 2 ^ 52)) q) e v)
     (subst (λ (i : ℕ). value w ≡ biased_sum (beq (unlike (leb (2 ^ 63) x) (leb (2 ^ 63) y)) (leb (2 ^ 63) z)) q z (n - i)) e b)
     (subst (λ (i : ℕ). Converts (unlike (leb (2 ^ 63) x) (leb (2 ^ 63) y)) w (field x + field y + i) r) e t) f
+
+-- the shift is less than a word is long
+pub shift_room : (n far : ℕ) → far ≡ n - 62 → n < 126 → far < 64
+shift_room n far e h = omega arith

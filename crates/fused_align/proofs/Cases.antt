@@ -2,7 +2,7 @@
 use mathlib.Core.Path.{◌≡◌, refl, sym, ap, ◌∙◌, subst}
 use mathlib.Core.Logic.{inl, inr}
 use Prim.Native.Nat.{ℕ, zero, suc, ◌+◌, ◌-◌, ◌*◌, ◌%◌, ◌^◌, ◌≤◌, ◌<◌}
-use native.Mathlib.Nat.{le_of_lt, le_trans, mul_assoc, mul_comm, mul-lt-mul_of_pos_right, le-add_right}
+use native.Mathlib.Nat.{le_of_lt, le_trans, lt_of_lt_of_le, lt_of_le_of_lt, mul_assoc, mul_comm, mul-lt-mul_of_pos_right, le-add_right}
 use native.Mathlib.Nat.{mul-le-mul_left}
 use native.Mathlib.Omega.{arith}
 use mathlib.Core.Bool.{Bool, false, not}
@@ -20,6 +20,7 @@ use Rattle.fused_pack.specs.Rounds.{Rounds}
 use Rattle.fused_align.specs.Placed.{Placed}
 use Rattle.fused_words.specs.declared.Words.{Words}
 use Rattle.fused_words.specs.Words.{value}
+use Rattle.fused_words.proofs.Carry.{high_lt}
 
 -- ---- a shift of less than three loses nothing of a multiple of four
 
@@ -130,6 +131,23 @@ module _ (B S J d e u : ℕ) (apart : e + d ≡ u) (pb : Placed B) (ps : Placed 
     where
       near : (B J : ℕ) → B ≡ J → B < J + 2 ^ 65
       near B J j = omega arith
+
+-- ---- what the calls ask: room for a sum (`Words::sum`), and a number that is not 0 (`Term::rounded`)
+
+pub high_room : (bh bl jh jl s : ℕ) → bh * 2 ^ 64 + bl < 2 ^ 126 → s < 2 ^ 126 → jh * 2 ^ 64 + jl ≤ s → bh + jh < 2 ^ 63
+high_room bh bl jh jl s p q l = sum_lt bh jh (high_lt bh bl (bh * 2 ^ 64 + bl) 62 refl p) (high_lt jh jl (jh * 2 ^ 64 + jl) 62 refl (lt_of_le_of_lt l q))
+  where
+    sum_lt : (a b : ℕ) → a < 2 ^ 62 → b < 2 ^ 62 → a + b < 2 ^ 63
+    sum_lt a b p q = omega arith
+
+pub some : (h l y : ℕ) → h * 2 ^ 64 + l ≡ y → 0 < y → 0 < h + l
+some h l y e p = omega arith
+
+pub sum_pos : (a b : ℕ) → 2 ^ 124 ≤ a → 0 < a + b
+sum_pos a b h = lt_of_lt_of_le (lt_of_lt_of_le (pow_pos 124) h) (le-add_right a b)
+
+pub difference_pos : (a b : ℕ) → b < a → 0 < a - b
+difference_pos a b h = omega arith
 
 pub zero_is : of_bits binary64 0 ≡ fin false 0 (pos 0)
 unfolding of_bits

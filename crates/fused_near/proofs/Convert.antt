@@ -5,7 +5,7 @@ use Prim.Native.Nat.{ℕ, suc, ◌+◌, ◌-◌, ◌*◌, ◌/◌, ◌%◌, ◌^
 use native.Mathlib.Nat.{le_of_eq, le_of_lt, lt_of_lt_of_le, lt_of_le_of_lt, mul_assoc, div-add-mod', le-add_right, eq-zero-or-pos}
 use native.Mathlib.Omega.{arith}
 use mathlib.Core.Bool.{Bool, true, false, not, cond}
-use lib.Dec.{leb, ltb, lit≤, le→leb, lt→ltb}
+use lib.Dec.{T, leb, ltb, lit≤, le→leb, lt→ltb}
 use lib.Arith.{lt→nleb, le→nltb}
 use lib.IntN.{ℤ, pos, negsuc, ◌-ℤ◌, sub_ℕ}
 use lib.Pow.{pow-add, pow_pos, pow_mono, shr-shr, shl_lt}
@@ -94,6 +94,12 @@ module _ (h : ℕ) (h-lt : h < 2 ^ 53) where
 
   as_number : to_z w64 (of_z w64 (to_z w64 h -ℤ pos (2 ^ 51))) ≡ sub_ℕ h (2 ^ 51)
   as_number = to_z-of_z difference_fits ∙ number
+
+  -- a float can be that number, so the cast is exact
+  pub exact_cast : T (in_float binary64 (to_z w64 (of_z w64 (to_z w64 h -ℤ pos (2 ^ 51)))))
+  exact_cast =
+      subst (λ (z : ℤ). T (in_float binary64 z)) (sym as_number)
+      (unfold in_float in by_sign (λ (z : ℤ). T (in_float binary64 z)) (λ n l. le→leb n (2 ^ 53) (le_of_lt l)) (λ n l. lt→ltb n (2 ^ 53) l))
 
   pub unbiased_above : 2 ^ 51 < h → HasValue (of_int binary64 (to_z w64 (of_z w64 (to_z w64 h -ℤ pos (2 ^ 51))))) false (h - 2 ^ 51) 1
   unbiased_above l =
@@ -204,6 +210,11 @@ module _ (s : Bool) (h l j e : ℕ) (u p q : Float) (h-lt : h < 2 ^ 53) (h-ge : 
       turned : (s : Bool) → unlike true s ≡ not s
       turned true = refl
       turned false = refl
+
+-- a float can be the low word
+pub fits_float : (j : ℕ) → j < 2 ^ 53 → T (in_float binary64 (pos j))
+unfolding in_float
+fits_float j l = le→leb j (2 ^ 53) (le_of_lt l)
 
 -- what the bias adds, taken off
 pub off_above : (h l : ℕ) → 2 ^ 51 + 4 ≤ h → (h - 2 ^ 51) * 2 ^ 64 + l ≡ h * 2 ^ 64 + l - 2 ^ 115

@@ -3,6 +3,7 @@ use mathlib.Core.Path.{◌≡◌, sym, ap, ◌∙◌, subst}
 use mathlib.Core.Bool.{Bool, true}
 use mathlib.Core.List.{List}
 use Prim.Native.Nat.{ℕ, ◌+◌, ◌-◌, ◌*◌, ◌<◌, ◌≤◌}
+use native.Mathlib.Nat.{le_trans, mul-le-mul}
 use native.Mathlib.Omega.{arith}
 use lib.Dec.{T}
 use lib.IntN.{ℤ, pos}
@@ -28,6 +29,12 @@ module _ {m : ℕ} {w end table : List ℤ} (s : Shaped m w end table) {i : ℕ}
 
   most_segments : i ≤ 255
   most_segments = let h = s.most in omega arith
+
+  -- no table is so long that a place in it would not fit
+  pub place_most : i * (2 * m + 2) + (2 * m + 2) ≤ 256 * 8
+  place_most =
+      let few = s.most_m in
+      le_trans (part_inside (2 * m + 2) {n = 256} (omega (arith, most_segments))) (mul-le-mul {n₂ = 256} {m₂ = 8} (omega arith) (omega arith))
 
   -- of a segment in range the sums can be taken
   pub summable : all within (segment_part m table i) ≡ true → Summable m table i

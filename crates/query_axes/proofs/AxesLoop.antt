@@ -3,6 +3,7 @@ use mathlib.Core.Path.{◌≡◌, refl, sym, ap, ◌∙◌, subst}
 use mathlib.Core.Bool.{Bool, true, false, cond}
 use mathlib.Core.List.{List}
 use Prim.Native.Nat.{ℕ, ◌+◌, ◌*◌, ◌<◌, ◌≤◌}
+use native.Mathlib.Nat.{mul-le-mul}
 use native.Mathlib.Omega.{arith}
 use lib.ListN.{length, set, take, drop}
 use lib.Ieee.{Float}
@@ -13,8 +14,10 @@ use Rattle.rules.specs.Query.{Lengths, writes, eval_poly, per_unit_of_s}
 use Rattle.query_levels.specs.declared.Buffers.{Buffers}
 use Rattle.query_levels.specs.Lent.{SameBuffers}
 use Rattle.rules.proofs.Build.{by_order}
+use Rattle.law_lists.proofs.Places.{cell_inside}
 use Rattle.rules.proofs.FilledList as Fills
 use Rattle.rules.proofs.FilledList.{Filled}
+use Rattle.law_lists.proofs.Lists.{part_inside}
 use Rattle.query_axes.specs.Evaluation.{Evaluable}
 
 -- ---- a buffer that is written, w, or not: ys is xs with f's cells below i, or xs itself
@@ -67,5 +70,20 @@ asked_for {y = y} e h = e ∙ ap (λ (w : Bool). cond w y +0) h
 pub room : {w : Bool} {n axes axis : ℕ} → (w ≡ true → n ≡ axes) → axis < axes → w ≡ true → axis < n
 room e l t = rw (e t) l
 
-pub order_bound : {p : PathRecord} {coefficients : List Float} {segment level : ℕ} {n : Lengths} → Evaluable p coefficients segment level n → p.order ≤ 7
-order_bound {p} h = by_order (λ order. order ≤ 7) (omega arith) (omega arith) (omega arith) p.order h.order
+module _ {p : PathRecord} {coefficients : List Float} {segment level : ℕ} {n : Lengths} (h : Evaluable p coefficients segment level n) where
+  pub order_bound : p.order ≤ 7
+  order_bound = by_order (λ order. order ≤ 7) (omega arith) (omega arith) (omega arith) p.order h.order
+
+  pub segments_bound : p.axes * p.segments ≤ 2048
+  segments_bound = mul-le-mul {n₂ = 8} {m₂ = 256} h.few_axes h.few_segments
+
+  pub table_bound : p.axes * p.segments * (p.order + 1) ≤ 16384
+  table_bound = let b : p.order ≤ 7 = order_bound in mul-le-mul {n₂ = 2048} {m₂ = 8} segments_bound (omega arith)
+
+  -- a segment of an axis is one of all axes' segments, and its coefficients are a part of the table
+  module _ {axis : ℕ} (l : axis < p.axes) where
+    pub segment_inside : axis * p.segments + segment < p.axes * p.segments
+    segment_inside = cell_inside p.segments l h.inside
+
+    pub part_inside_all : (axis * p.segments + segment) * (p.order + 1) + (p.order + 1) ≤ p.axes * p.segments * (p.order + 1)
+    part_inside_all = part_inside (p.order + 1) segment_inside

@@ -1,3 +1,4 @@
+pub mod Tests
 pub mod Finite
 pub mod Range
 pub mod Sized

@@ -1,8 +1,8 @@
 -- What was read of a sheet is within reach of the code, and what is built of it is what the sheet stands for. Assumes nothing.
 use mathlib.Core.Path.{◌≡◌, refl, sym, ap, ◌∙◌, subst}
 use mathlib.Core.List.{List, [], ◌∷◌}
-use Prim.Native.Nat.{ℕ, suc, ◌-◌, ◌≤◌, ◌<◌}
-use native.Mathlib.Nat.{le_trans, le_of_eq, mul-le-mul_right}
+use Prim.Native.Nat.{ℕ, suc, ◌*◌, ◌-◌, ◌≤◌, ◌<◌}
+use native.Mathlib.Nat.{le_trans, le_of_eq, mul-le-mul, mul-le-mul_right}
 use native.Mathlib.Omega.{arith}
 use lib.IntN.{ℤ}
 use lib.ListN.{length, get_or}
@@ -13,7 +13,7 @@ use Rattle.rules.specs.Build.{table_length}
 use Rattle.rules.specs.SheetAnswers.{points_of, start_of, end_of, of_each, columns_of, column_major, order_of, sheet_input, cells_of}
 use Rattle.sheet_record.specs.declared.SheetNumbers.{SheetNumbers}
 use Rattle.sheet_record.specs.Held.{Near, Held, axes_in, ReadOf}
-use Rattle.sheet_record.specs.Reached.{InReach, Reached}
+use Rattle.sheet_record.specs.Reached.{Small, InReach, Reached}
 use Rattle.sheet_record.specs.declared.SheetRead.{SheetRead}
 use Rattle.sheet_record.specs.ReadOf.{IsReadOf}
 use Rattle.sheet_columns.specs.Columns.{columns_at}
@@ -109,3 +109,7 @@ pub cells_are : (s : Sheet) (read : SheetRead) → IsReadOf s read
     → let n = read.numbers in table_length n.axes (n.points - 1) (order_of n.order) ≡ cells_of (sheet_input s)
 unfolding cells_of
 cells_are s read h = ap cells_of (input_is s read h)
+
+-- how many numbers the lists have
+pub sizes : (n : SheetNumbers) → Small n → (n.points * n.axes ≤ 2056) × (n.start * n.axes ≤ 24) × (n.end * n.axes ≤ 24)
+sizes n h = (mul-le-mul h.few_points h.few_axes, mul-le-mul h.few_start h.few_axes, mul-le-mul h.few_end h.few_axes)
