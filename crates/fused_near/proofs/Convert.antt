@@ -87,7 +87,7 @@ module _ (h : ℕ) (h-lt : h < 2 ^ 53) where
     | inr g ↦ subst P (sym (above g)) (p (h - 2 ^ 51) (omega arith))
   ]
 
-  difference_fits : SFits w64 (to_z w64 h -ℤ pos (2 ^ 51))
+  pub difference_fits : SFits w64 (to_z w64 h -ℤ pos (2 ^ 51))
   difference_fits =
       subst (SFits w64) (sym number)
       (by_sign (SFits w64) (λ n l. record { sfits = lt_of_lt_of_le l (lit≤ tt) }) (λ n l. record { sfits = lt_of_lt_of_le l (lit≤ tt) }))

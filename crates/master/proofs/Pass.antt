@@ -237,7 +237,7 @@ unfolding master_says check_master
 refused s e r is h = let p = err_from_is_err_and r is in rw (p.1, p.2, number_is s, ← h, number-not_zero e, number-not_zero e) refl
 
 -- and else the pass's answer is the check's
-passed : (s : MasterSet) → first_no (questions_before s) ≡ 0 → pass_says (m_of s.order) s.waypoints s.start s.end s.table ≡ check_master s
+pub passed : (s : MasterSet) → first_no (questions_before s) ≡ 0 → pass_says (m_of s.order) s.waypoints s.start s.end s.table ≡ check_master s
 unfolding pass_says check_master
 passed s e = rw (number_is s, e, met_is s (shaped s e).0.least) (answer (all within s.table) (endpoint_equations s) (joint_equations s))
   where
