@@ -101,12 +101,7 @@ fn item(cursor: &mut Cursor, depth: usize, out: &mut [i64], at: usize) -> Result
 // F12, J6: the items of a list inside `depth` forms, up to its closing bracket: one after the other, each read by the item routine. (The
 // loop stays: an iterator over the items would have to hold both the cursor and the buffer.)
 #[cycle(item_list)]
-fn items(
-    cursor: &mut Cursor,
-    depth: usize,
-    out: &mut [i64],
-    at: usize,
-) -> Result<Count, SheetError>
+fn items(cursor: &mut Cursor, depth: usize, out: &mut [i64], at: usize) -> Result<Count, SheetError>
     requires { (at ≤ length out.old) × (length out.old ≤ 258) }
     ensures same { cursor.new.text.now ≡ cursor.old.text.now }
     ensures says { ListFilled cursor.old.text.now cursor.old.at depth out.old at cursor.new.at result out.new }
