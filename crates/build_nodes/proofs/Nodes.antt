@@ -5,12 +5,12 @@ use Prim.Native.Nat.{ℕ, zero, suc, ◌+◌, ◌*◌, ◌-◌, ◌<◌, ◌≤�
 use native.Mathlib.Omega.{arith}
 use lib.ListN.{length, get_or, take, drop}
 use lib.Ieee.{Float}
-use Rattle.rules.specs.Floats.{◌⊖◌, ◌!◌}
-use Rattle.rules.specs.Tables.{B, C}
+use Rattle.rules.specs.Floats.{◌⊖◌, ◌⊗◌, ◌!◌, sum_of}
+use Rattle.rules.specs.Tables.{A, B, C}
 use Rattle.rules.specs.Solve.{Factored, entry, matrix, column, factor, solve, solve_matrix, node_matrix, node_factors, solved_c_of}
 use Rattle.law_lists.proofs.Filling.{listed_ext, parts_at}
 use Rattle.rules.proofs.Matrices.{matrix_ext, length-matrix}
-use Rattle.build_products.specs.Columns.{transposed}
+use Rattle.build_products.specs.Columns.{transposed, HoldsA, HoldsB}
 use Rattle.build_nodes.specs.NodeLists.{node_solved}
 use Rattle.build_nodes.specs.Steps.{next_entry, SolvedTo}
 use Rattle.build_factoring.proofs.Factors.{length-factor, length_rows}
@@ -38,10 +38,17 @@ module _ (m : ℕ) where
   unfolding node_matrix
   first_matrix = refl
 
-  next_matrix : (i : ℕ) → matrix m m (next_entry m (transposed m (transposed m (solved_c_of m i)))) ≡ node_matrix m (suc i)
+  -- an entry of b − a·(previous solved C), of any lists; of A and B it is `next_entry`
+  abbrev entry_after : List Float → List Float → List Float → ℕ → ℕ → Float
+  entry_after a b previous r c = entry m b r c ⊖ sum_of m (λ k. entry m a r k ⊗ entry m previous k c)
+
+  -- of a list that has A's entries
+  next_matrix : (a : List Float) → ((r k : ℕ) → r < m → k < m → entry m a r k ≡ entry m (A m) r k) → (i : ℕ)
+      → matrix m m (entry_after a (B m) (transposed m (transposed m (solved_c_of m i)))) ≡ node_matrix m (suc i)
   unfolding node_matrix solved_c_of node_factors
-  next_matrix i =
-      matrix_ext m m _ _ (λ r c h l. ap (λ (x : Float). entry m (B m) r c ⊖ x) (sum_of_ext m _ _ (λ k b. rw (twice (solved_c_of m i) k c b l))))
+  next_matrix a e i =
+      matrix_ext m m _ _
+      (λ r c h l. ap (λ (x : Float). entry m (B m) r c ⊖ x) (sum_of_ext m _ _ (λ k b. rw (e r k h b, twice (solved_c_of m i) k c b l))))
 
   length-node : length (B m) ≡ m * m → (i : ℕ) → length (node_matrix m i) ≡ m * m
   unfolding node_matrix
@@ -66,12 +73,23 @@ module _ (m : ℕ) where
       ap (λ (xs : List Float). take (m * m) (drop (i * (m * m)) xs)) h.1
       ∙ parts_at (m * m) (λ j. transposed m (solved_c_of m j)) (suc i) solved i (λ j l. length_solved j) (omega arith)
 
-  -- a node past the first, from the part of the node before
-  pub node_after : (i j : ℕ) (solved : List Float) → suc j ≡ i → SolvedTo m i solved
-      → let at = j * (m * m) in matrix m m (next_entry m (transposed m (take (at + m * m - at) (drop at solved)))) ≡ node_matrix m i
-  node_after i j solved e h =
+  -- a node past the first, from the part of the node before: of any lists that hold A and B
+  pub node_after : (i j : ℕ) (a b solved : List Float) → suc j ≡ i → HoldsA m a → HoldsB m b → SolvedTo m i solved
+      → let at = j * (m * m) in
+      matrix m m (entry_after (transposed m a) b (transposed m (take (at + m * m - at) (drop at solved)))) ≡ node_matrix m i
+  node_after i j a b solved e s t h =
       let size : j * (m * m) + m * m - j * (m * m) ≡ m * m = omega arith in
-      rw (size, solved_part j solved (subst (λ (k : ℕ). SolvedTo m k solved) (sym e) h)) (next_matrix j) ∙ ap (node_matrix m) e
+      rw (size, solved_part j solved (subst (λ (k : ℕ). SolvedTo m k solved) (sym e) h), s.is, t.is)
+      (next_matrix (transposed m (transposed m (A m))) (twice (A m)) j)
+      ∙ ap (node_matrix m) e
+
+  -- and of A and B themselves
+  pub node_after_of_m : (i j : ℕ) (solved : List Float) → suc j ≡ i → SolvedTo m i solved
+      → let at = j * (m * m) in matrix m m (next_entry m (transposed m (take (at + m * m - at) (drop at solved)))) ≡ node_matrix m i
+  node_after_of_m i j solved e h =
+      let size : j * (m * m) + m * m - j * (m * m) ≡ m * m = omega arith in
+      rw (size, solved_part j solved (subst (λ (k : ℕ). SolvedTo m k solved) (sym e) h)) (next_matrix (A m) (λ r k b l. refl) j)
+      ∙ ap (node_matrix m) e
 
   -- what solving with a node's factors gives
   pub solved_node : (i : ℕ) (a c entries : List Float) (rows : List ℕ) {out : List Float} → a ≡ node_matrix m i

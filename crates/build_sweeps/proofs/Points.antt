@@ -7,18 +7,17 @@ use lib.ListN.{length}
 use lib.Ieee.{Float}
 use Rattle.rules.specs.Floats.{◌⊖◌, ◌!◌, +0}
 use Rattle.rules.specs.Build.{of_axis, dy}
+use Rattle.law_lists.specs.Lists.{listed}
 use Rattle.law_lists.proofs.Filling.{listed_at}
 use Rattle.law_lists.proofs.Places.{cell_inside}
-use Rattle.build_rhs.specs.declared.AxisWaypoints.{AxisWaypoints}
-use Rattle.build_sweeps.specs.OfAxis.{points_of}
 
-module _ (n : ℕ) (points : AxisWaypoints) where
-  pub points_at : (k : ℕ) → k < n + 2 → points_of n points ! k ≡ of_axis points.axes points.waypoints.now points.axis k
+-- of any numbers and list; of an `AxisWaypoints` the listed waypoints are its `points_of`
+module _ (n axes axis : ℕ) (waypoints : List Float) where
+  pub points_at : (k : ℕ) → k < n + 2 → listed (n + 2) (of_axis axes waypoints axis) ! k ≡ of_axis axes waypoints axis k
   points_at k h = listed_at +0 (n + 2) _ k h
 
   pub points_dy : (i : ℕ) → suc i < n + 2
-      → dy (points_of n points) i
-      ≡ of_axis points.axes points.waypoints.now points.axis (suc i) ⊖ of_axis points.axes points.waypoints.now points.axis i
+      → dy (listed (n + 2) (of_axis axes waypoints axis)) i ≡ of_axis axes waypoints axis (suc i) ⊖ of_axis axes waypoints axis i
   unfolding dy
   points_dy i h = ap₂ ◌⊖◌ (points_at (suc i) h) (points_at i (omega arith))
 

@@ -16,9 +16,6 @@ use Rattle.law_lists.proofs.Filling.{lt_or_le, joined_ext, parts_at}
 use Rattle.rules.proofs.Build.{length-inner}
 use Rattle.build_plan.specs.Given.{first_of, last_of}
 use Rattle.build_segments.specs.NodeNumbers.{node_part}
-use Rattle.build_sweeps.specs.declared.Axis.{Axis}
-use Rattle.build_sweeps.specs.OfAxis.{points_of, numbers_of, coefficients_of}
-use Rattle.build_thomas.specs.Row.{segment_of}
 
 -- rest is what the solved list has past the inner nodes' numbers
 module _ (m n : ℕ) (boundary solved w rest : List Float) where
@@ -49,13 +46,12 @@ module _ (m n : ℕ) (boundary solved w rest : List Float) where
       go (inl l) = rw (lt-ltb i n l) (ap (λ (xs : List Float). take m (drop (i * m) xs)) whole ∙ parts_at m inner n solved i sized l)
       go (inr l) = rw (le-ltb i n l)
 
-module _ (a : Axis) (solved rest : List Float) where
-  pub axis_is : solved ≡ joined a.nodes.now.n (numbers_of a) ++ rest
-      → joined (a.nodes.now.n + 1) (segment_of a solved) ≡ coefficients_of a
+  -- segment i's coefficients, with its nodes' numbers as they are kept; of an `Axis` they are its `segment_of`
+  abbrev segment : ℕ → List Float
+  segment i =
+      let node : ℕ → List Float = node_part m n boundary solved in
+      segment_coefficients m (w ! i) (dy w i) (node i) (node (suc i))
+
+  pub axis_is : solved ≡ joined n inner ++ rest → joined (n + 1) segment ≡ axis_coefficients m n w first last
   unfolding axis_coefficients
-  axis_is e =
-      let m = a.nodes.now.tables.now.m in
-      let n = a.nodes.now.n in
-      let w : List Float = points_of n a.points in
-      let nodes = nodes_are m n a.numbers.now solved w rest e in
-      joined_ext (n + 1) _ _ (λ i h. ap₂ (segment_coefficients m (w ! i) (dy w i)) (nodes i) (nodes (suc i)))
+  axis_is e = joined_ext (n + 1) _ _ (λ i h. ap₂ (segment_coefficients m (w ! i) (dy w i)) (nodes_are e i) (nodes_are e (suc i)))

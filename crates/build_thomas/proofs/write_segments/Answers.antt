@@ -43,6 +43,7 @@ pub loop-i-preserved : goal.loop-i-preserved
 loop-i-preserved c =
     let a = c.args.axis.now in
     let n = a.nodes.now.n in
+    let points = a.points in
     let i = c.loop-i.i in
     step c.loop-i.invariant
     (rw (
@@ -51,8 +52,8 @@ loop-i-preserved c =
       c.dy.ensures,
       c.numbers_of_node.ensures,
       c.numbers_of_node-in-loop-i.ensures,
-      points_at n a.points i (omega arith),
-      points_dy n a.points i (omega arith),
+      points_at n points.axes points.axis points.waypoints.now i (omega arith),
+      points_dy n points.axes points.axis points.waypoints.now i (omega arith),
       add-one,
     ))
     (rw next_part (inside a c.args.chunk.now c.requires.1 i (omega arith)))

@@ -15,9 +15,11 @@ pub loop-i-init : goal.loop-i-init
 loop-i-init c =
     let self = c.args.self.now in
     let tables = self.nodes.now.tables.now in
+    let points = self.points in
     record {
       done = none tables.m _ c.args.solved.now (length-solved_side tables.m self.nodes.now.n _ _ _);
-      before = points_dy self.nodes.now.n self.points 0 (omega arith) ∙ sym c.dy-dy_prev.ensures;
+      before =
+          points_dy self.nodes.now.n points.axes points.axis points.waypoints.now 0 (omega arith) ∙ sym c.dy-dy_prev.ensures;
       room = length-take-le tables.m _ tables.few;
     }
 
@@ -29,7 +31,9 @@ loop-i-preserved c =
     let i = c.loop-i.i in
     let inv = c.loop-i.invariant in
     let w : List Float = points_of n self.points in
-    let next : dy w (suc i) ≡ c.dy-dy_next.result = rw add-one at (points_dy n self.points (i + 1) (omega arith) ∙ sym c.dy-dy_next.ensures) in
+    let points = self.points in
+    let next : dy w (suc i) ≡ c.dy-dy_next.result =
+    rw add-one at (points_dy n points.axes points.axis points.waypoints.now (i + 1) (omega arith) ∙ sym c.dy-dy_next.ensures) in
     let side = c.full_side_with.ensures w inv.before next (λ q. part_at inv.done (i - 1) (omega arith)) in
     record {
       done =
