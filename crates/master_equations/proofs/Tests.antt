@@ -99,6 +99,34 @@ next_inside {m} {i} {w} s l h =
     let inside : (i + 1) * (2 * m + 2) + (2 * m + 2) ≤ (length w - 1) * (2 * m + 2) = part_inside (2 * m + 2) (omega (arith, h)) in
     rw s.table_is (omega (arith, inside))
 
+-- of the sums r = 0, 1, .. at a segment's end, those from r = 1 on, so many, are the numbers of a list from a place on
+abbrev pub meets_from : List ℤ → List ℤ → ℕ → ℕ → Bool
+meets_from sums numbers from count = every count (λ r. same (at sums (suc r)) (at numbers (from + r)))
+
+-- of a segment, whose sums the code has in a list: it compares them with the end state or with what stands in the table
+module _ (m : ℕ) (w end table : List ℤ) (i : ℕ) (sums : List ℤ) (are : (r : ℕ) → r < 2 * m + 1 → at sums r ≡ at_end m table i r) where
+  -- the sums from r = 1 on against f 0, f 1, .., which stand in a list from a place on
+  at_end_lem : (count : ℕ) → count ≤ 2 * m → (numbers : List ℤ) (from : ℕ) (f : ℕ → ℤ) → ((r : ℕ) → f r ≡ at numbers (from + r))
+      → every count (λ r. same (at_end m table i (suc r)) (f r)) ≡ meets_from sums numbers from count
+  at_end_lem count l numbers from f e = every_alike count _ _ (λ r h. ap₂ same (sym (are (suc r) (omega arith))) (e r))
+
+  right_as_made : same (at_end m table i 0) (at w (suc i)) ≡ same (at sums 0) (at w (i + 1))
+  right_as_made = rw (add-one, are 0 (omega arith))
+
+  last_as_made : every m (λ r. same (at_end m table i (suc r)) (at end r)) ≡ meets_from sums end 0 m
+  last_as_made = at_end_lem m (omega arith) end 0 _ (λ r. ap (at end) (omega arith))
+
+  joint_as_made : every (2 * m) (λ r. same (at_end m table i (suc r)) (coefficient m table (suc i) (suc r))) ≡ meets_from sums table ((i + 1) * (2 * m + 2) + 1) (2 * m)
+  joint_as_made = at_end_lem (2 * m) (omega arith) table _ _ (λ r. ap (at table) (omega arith))
+
+  -- where all before is good and the left waypoint is met, the rest decides
+  pub rest_decides : (before : Bool) → before ≡ true → same (at table (i * (2 * m + 2))) (at w i) ≡ true
+      → (before && segment_meets m w end table i)
+      ≡ (same (at sums 0) (at w (i + 1))
+      && cond (eqb (i + 2) (length w)) (meets_from sums end 0 m) (meets_from sums table ((i + 1) * (2 * m + 2) + 1) (2 * m)))
+  unfolding segment_meets
+  rest_decides before e f = rw (e, add-zero, right_as_made, last_as_made, joint_as_made, f)
+
 -- The ways out of a segment's tests. The code has the sums in a list, and compares bits of numbers that fit: the left waypoint's, then the right one's, and
 -- then the sums from r = 1 on with the end state or with what stands in the table.
 module _ (m : ℕ) (w end table : List ℤ) (i : ℕ) where
@@ -109,15 +137,15 @@ module _ (m : ℕ) (w end table : List ℤ) (i : ℕ) where
   module _ (sums : List ℤ) (are : (r : ℕ) → r < 2 * m + 1 → at sums r ≡ at_end m table i r)
       (fits : mag (at table (i * (2 * m + 2))) < 2 ^ hbits w64) (fits_left : mag (at w i) < 2 ^ hbits w64)
       (left : of_z w64 (at table (i * (2 * m + 2))) ≡ of_z w64 (at w i)) where
-    rest_decides : segment_meets m w end table i
+    rest_is : segment_meets m w end table i
         ≡ (same (at sums 0) (at w (i + 1))
         && cond (eqb (i + 2) (length w)) (every m (λ r. same (at_end m table i (suc r)) (at end r)))
         (every (2 * m) (λ r. same (at_end m table i (suc r)) (coefficient m table (suc i) (suc r)))))
     unfolding segment_meets
-    rest_decides = rw (add-zero, bits_same _ _ fits fits_left left, add-one, are 0 (omega arith))
+    rest_is = rw (add-zero, bits_same _ _ fits fits_left left, add-one, are 0 (omega arith))
 
     pub right_differs : (of_z w64 (at sums 0) ≡ of_z w64 (at w (i + 1)) → ⊥) → false ≡ segment_meets m w end table i
-    right_differs h = rw (rest_decides, bits_differ _ _ h)
+    right_differs h = rw (rest_is, bits_differ _ _ h)
 
     module _ (fits_sum : mag (at sums 0) < 2 ^ hbits w64) (fits_right : mag (at w (i + 1)) < 2 ^ hbits w64)
         (right : of_z w64 (at sums 0) ≡ of_z w64 (at w (i + 1))) where
@@ -130,14 +158,14 @@ module _ (m : ℕ) (w end table : List ℤ) (i : ℕ) where
 
       pub last_decides : {r : Bool} → i + 2 ≡ length w → m ≤ length end → r ≡ meets_at sums (take m end) → r ≡ segment_meets m w end table i
       last_decides e l is =
-          is ∙ rw (rest_decides, bits_same _ _ fits_sum fits_right right, eq-eqb _ _ e)
+          is ∙ rw (rest_is, bits_same _ _ fits_sum fits_right right, eq-eqb _ _ e)
           (as_compared m (omega arith) end 0 _ (omega arith) (λ r. ap (at end) (omega arith)))
 
       pub joint_decides : {r : Bool} → (i + 2 ≡ length w → ⊥) → Shaped m w end table → i < length w - 1
           → r ≡ meets_at sums (take ((i + 1) * (2 * m + 2) + 1 + 2 * m - ((i + 1) * (2 * m + 2) + 1)) (drop ((i + 1) * (2 * m + 2) + 1) table))
           → r ≡ segment_meets m w end table i
       joint_decides h s l is =
-          rw part_size at is ∙ rw (rest_decides, bits_same _ _ fits_sum fits_right right, ne_eqb _ _ h)
+          rw part_size at is ∙ rw (rest_is, bits_same _ _ fits_sum fits_right right, ne_eqb _ _ h)
           (as_compared (2 * m) (omega arith) table _ _ (next_inside s l h) (λ r. ap (at table) (omega arith)))
 
 -- what the code's way through the tests goes by

@@ -1,20 +1,32 @@
--- Laws of what is written onto a page: nothing, one thing after another, and parts. Assumes nothing.
-use mathlib.Core.Path.{◌≡◌, refl, ap, ◌∙◌, subst}
-use mathlib.Core.List.{List, [], ◌++◌}
+-- Laws of what is written onto a page: nothing, one thing after another, parts, and a byte that stood there before. Assumes nothing.
+use mathlib.Core.Path.{◌≡◌, refl, sym, ap, ◌∙◌, subst}
+use mathlib.Core.List.{List, [], ◌∷◌, ◌++◌, append_assoc}
 use mathlib.Core.Logic.{◌⊎◌, inl, inr}
 use Prim.Native.Nat.{ℕ, zero, suc, ◌+◌, ◌-◌, ◌<◌, ◌≤◌}
 use native.Mathlib.Numerals.{add-one}
 use native.Mathlib.Nat.{zero-add}
 use native.Mathlib.Omega.{arith}
 use borrow.Rule.Slice.PartMut.{put_mid}
-use lib.Seq.{paste}
+use lib.Seq.{paste, length-take-le, drop_at, take-set-le, set_split}
 use Rattle.std.proofs.lemmas.Slice.{put_mid-paste}
-use lib.ListN.{length, drop, length-append}
+use lib.ListN.{length, set, take, drop, length-append}
 use Rattle.std.proofs.lemmas.List.Edits.{paste_none, paste_all, paste-paste, length-paste}
 use Rattle.law_lists.specs.Lists.{joined}
 use Rattle.law_lists.proofs.Lists.{below_suc}
 use Rattle.sheet_bits.specs.declared.Page.{Page}
 use Rattle.sheet_bits.specs.Page.{HasRoom, Wrote}
+
+-- a byte that stands after x already
+written_set : (out : List ℕ) (at : ℕ) (x : List ℕ) (b : ℕ) → at + length x < length out
+    → take at (set out (at + length x) b) ++ (x ++ drop (at + length x) (set out (at + length x) b))
+    ≡ take at out ++ ((x ++ (b ∷ [])) ++ drop (at + length (x ++ (b ∷ []))) out)
+written_set out at x b room =
+    let p : at + length x ≤ length out = omega arith in
+    let grown : at + length (x ++ (b ∷ [])) ≡ suc (at + length x) = rw length-append (omega arith) in
+    rw (take-set-le at out (at + length x) b (omega arith), set_split out (at + length x) b room, grown)
+    (ap (λ (l : List ℕ). take at out ++ (x ++ l))
+    (drop_at (take (at + length x) out) (b ∷ drop (suc (at + length x)) out) (at + length x) (length-take-le _ out p))
+    ∙ simp append_assoc)
 
 pub wrote_none : (page : Page) → page.at ≤ length page.buffer.now → Wrote page [] page
 wrote_none page h =
@@ -74,6 +86,15 @@ module _ (f : ℕ → List ℕ) (i : ℕ) {before here : Page} (w : Wrote before
   -- all parts
   pub wrote_parts : {n : ℕ} → i ≤ n → n ≤ i → Wrote before (joined n f) here
   wrote_parts {n} h l = let e : i ≡ n = omega arith in rw e at w
+
+-- a byte is set after which x is still to be written
+pub before_set : (out : List ℕ) (at : ℕ) {place : ℕ} (x : List ℕ) (b : ℕ) → place ≡ at + length x → place < length out
+    → paste (set out place b) at x (length x) ≡ paste out at (x ++ (b ∷ [])) (length (x ++ (b ∷ [])))
+before_set out at x b e h =
+    rw e
+    (paste_all (set out (at + length x) b) at x (length x) refl
+    ∙ written_set out at x b (omega arith)
+    ∙ sym (paste_all out at (x ++ (b ∷ [])) (length (x ++ (b ∷ []))) refl))
 
 -- from the start of a buffer
 pub wrote_all : {page after : Page} {bytes out : List ℕ} → page.buffer.now ≡ out → page.at ≡ 0 → Wrote page bytes after

@@ -1,4 +1,5 @@
 -- One step of each of the judge's readings, at a place of the text. Assumes nothing.
+use Prim.{tt}
 use mathlib.Core.Path.{◌≡◌, refl, sym, ap, ◌∙◌}
 use mathlib.Core.Bool.{true, false}
 use mathlib.Core.List.{List}
@@ -17,7 +18,8 @@ use Rattle.rules.specs.declared.SheetError.{SheetError}
 use Rattle.rules.specs.SheetReading as reading
 use Rattle.sheet_reading.specs.Says.{read_of, stop_at}
 use Rattle.sheet_reading.proofs.Bytes.{left_none, left_byte}
-use Rattle.sheet_decimals.specs.Says.{up_to}
+use Rattle.sheet_decimals.specs.declared.DecimalError.{DecimalError}
+use Rattle.sheet_decimals.specs.Says.{up_to, DecimalSmall}
 use Rattle.sheet_numbers.specs.Says.{plain_at}
 
 -- ---- digits that do not lead with a 0
@@ -37,6 +39,11 @@ module _ (limit : ℕ) (over : List ℕ → reading.Read ℕ) (s : List ℕ) (i 
         → reading.positive (up_to limit) over (drop i s) ≡ reading.digits (up_to limit) over (b - 48) (drop (i + 1) s)
     unfolding reading.positive
     positive_on f = rw (left_byte s i b e, f, reading.positive)
+
+-- what is worth b or more is worth any number up to b, or more
+pub decimal_least : (p : Result ℕ DecimalError) (a b limit : ℕ) → a ≤ b → DecimalSmall b limit p → DecimalSmall a limit p
+decimal_least (Ok n) a b limit l h = omega arith
+decimal_least (Err e) a b limit l h = tt
 
 -- ---- a number up to 2^40 and its opposite, as an i64
 

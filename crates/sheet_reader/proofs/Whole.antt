@@ -114,13 +114,23 @@ module _ (t : List ℕ) (h : length t ≤ longest) (points start end : List ℤ)
   unfolding judge
   judge_stop k r e = rw (le-leb (length t) longest h, e, judge)
 
-  pub short : (r : Result SheetNumbers SheetError) → WholeSays t (Ok r) points start end → SheetSays (judge t) r points start end
+  pub short_read : (r : Result SheetNumbers SheetError) → WholeSays t (Ok r) points start end → SheetSays (judge t) r points start end
   unfolding sized
-  short (Ok n) w = rw (judge_got w.0 w.1, w.2) w.3
-  short (Err e) w = rw (judge_got w.0 w.1, w.2.1) (refl, refl)
+  short_read (Ok n) w = rw (judge_got w.0 w.1, w.2) w.3
+  short_read (Err e) w = rw (judge_got w.0 w.1, w.2.1) (refl, refl)
 
   pub short_stop : (e : SheetError) → WholeSays t (Err e) points start end → SheetSays (judge t) (Err e) points start end
   short_stop e w = rw (judge_stop _ (drop e.at t) w.0) (refl, place_of_lem t e.at w.1)
+
+-- J19: the answer for a text that is not longer than 32,768 bytes, whatever was read
+abbrev pub answer_of : Result (Result SheetNumbers SheetError) SheetError → Result SheetNumbers SheetError
+answer_of (Ok r) = r
+answer_of (Err e) = Err e
+
+pub short : (t : List ℕ) → length t ≤ longest → (r : Result (Result SheetNumbers SheetError) SheetError) (points start end : List ℤ)
+    → WholeSays t r points start end → SheetSays (judge t) (answer_of r) points start end
+short t h (Ok r) points start end w = short_read t h points start end r w
+short t h (Err e) points start end w = short_stop t h points start end e w
 
 module _ (t : List ℕ) (h : longest < length t) (points start end : List ℤ) where
   cut_length : length (take longest t) ≡ longest
@@ -134,10 +144,20 @@ module _ (t : List ℕ) (h : longest < length t) (points start end : List ℤ) w
   unfolding judge
   judge_cut_stop k r e = rw (lt-leb (length t) longest h, e, judge)
 
-  pub long : (r : Result SheetNumbers SheetError) → WholeSays (take longest t) (Ok r) points start end
+  pub long_read : (r : Result SheetNumbers SheetError) → WholeSays (take longest t) (Ok r) points start end
       → SheetSays (judge t) (Err (invalid_at longest)) points start end
-  long (Ok n) w = rw (judge_cut w.0 w.1) (refl, refl)
-  long (Err e) w = rw (judge_cut w.0 w.1) (refl, refl)
+  long_read (Ok n) w = rw (judge_cut w.0 w.1) (refl, refl)
+  long_read (Err e) w = rw (judge_cut w.0 w.1) (refl, refl)
 
   pub long_stop : (e : SheetError) → WholeSays (take longest t) (Err e) points start end → SheetSays (judge t) (Err e) points start end
   long_stop e w = rw (judge_cut_stop _ (drop e.at (take longest t)) w.0) (refl, place_of_lem (take longest t) e.at w.1 ∙ rw cut_length)
+
+-- J19: and for one that is
+abbrev pub cut_of : Result (Result SheetNumbers SheetError) SheetError → Result SheetNumbers SheetError
+cut_of (Ok r) = Err (invalid_at longest)
+cut_of (Err e) = Err e
+
+pub long : (t : List ℕ) → longest < length t → (r : Result (Result SheetNumbers SheetError) SheetError) (points start end : List ℤ)
+    → WholeSays (take longest t) r points start end → SheetSays (judge t) (cut_of r) points start end
+long t h (Ok r) points start end w = long_read t h points start end r w
+long t h (Err e) points start end w = long_stop t h points start end e w

@@ -2,7 +2,7 @@
 use Rattle.std.proofs.Common.{arith}
 use Rattle.std.proofs.lemmas.Result.{err_from_is_err_and}
 use lib.ListN.{length-take}
-use Rattle.sheet_reader.proofs.Whole.{short, short_stop, long, long_stop}
+use Rattle.sheet_reader.proofs.Whole.{short_read, short_stop, long_read, long_stop}
 use Rattle.sheet_reader.proofs.read_sheet.Goals as goal
 
 pub slice_bounds-read_whole-end : goal.slice_bounds-read_whole-end
@@ -15,7 +15,7 @@ returns-in_err-_sized c =
 
 pub returns-then-text-gt-LONGEST : goal.returns-then-text-gt-LONGEST
 returns-then-text-gt-LONGEST c =
-    rw c.invalid_sheet.ensures (long c.args.text.now (omega arith) _ _ _ c.in_ok-_sized._sized c.in_ok-_sized.ensures)
+    rw c.invalid_sheet.ensures (long_read c.args.text.now (omega arith) _ _ _ c.in_ok-_sized._sized c.in_ok-_sized.ensures)
 
 pub returns-in_err-read_whole : goal.returns-in_err-read_whole
 returns-in_err-read_whole c =
@@ -23,4 +23,4 @@ returns-in_err-read_whole c =
     rw (p.1, p.2) (short_stop c.args.text.now (omega arith) _ _ _ _ c.in_err-read_whole.ensures)
 
 pub returns : goal.returns
-returns c = short c.args.text.now (omega arith) _ _ _ c.in_ok-read_whole.field-0 c.in_ok-read_whole.ensures
+returns c = short_read c.args.text.now (omega arith) _ _ _ c.in_ok-read_whole.field-0 c.in_ok-read_whole.ensures
