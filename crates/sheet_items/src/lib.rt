@@ -1,8 +1,8 @@
-// Items and lists of a job sheet. An item is a number or an `again` form, and a form holds a list: so the item routine and the list
-// routine call each other, and the bytes that remain fall. The list routine loops over its items, so the calls are as deep as forms
-// stand inside one another, which is four at the most. The numbers go into a buffer, as many as it holds. (Buffer and place stay two
-// parameters, `out` and `at`, and what is asked of them stays two clauses: a form's list is written from one place on and up to
-// another, so a struct of buffer and place would have a second place beside it, and each contract would say in addition that the struct
+// Items and lists of a job sheet. An item is a number or an `again` form, and a form holds a list: so the item routine and the list routine
+// call each other, by `form` and `items` between them, and the bytes that remain fall. A list's items are read in a loop, so the calls are
+// as deep as forms stand inside one another, which is four at the most. The numbers go into a buffer, as many as it holds. (Buffer and
+// place stay two parameters, `out` and `at`, and what is asked of them stays two clauses: a form's list is written from one place on and up
+// to another, so a struct of buffer and place would have a second place beside it, and each contract would say in addition that the struct
 // still holds the buffer that was lent. Cursor and depth stay two parameters: the cursor goes on, the depth is another in each form.)
 #![tactic(auto)]
 
@@ -66,7 +66,7 @@ fn later(end: usize, room: usize, place: usize, over: usize) -> usize
     if end < room { place } else { over }
 }
 
-// J4, J5: a form inside `depth` others, and where its numbers end in the buffer: the list routine is called, and what it has written is
+// F12, J4, J5: a form inside `depth` others, and where its numbers end in the buffer: the list routine is called, and what it has written is
 // written n times over.
 #[cycle(item_list)]
 fn form(cursor: &mut Cursor, depth: usize, out: &mut [i64], at: usize) -> Result<usize, SheetError>
@@ -98,7 +98,7 @@ fn item(cursor: &mut Cursor, depth: usize, out: &mut [i64], at: usize) -> Result
     end
 }
 
-// F12, J6: the items of a list inside `depth` forms, up to its closing bracket: one after the other, each read by the item routine. (The
+// F12, J6: the items of a list inside `depth` forms, and its closing bracket: one after the other, each read by the item routine. (The
 // loop stays: an iterator over the items would have to hold both the cursor and the buffer.)
 #[cycle(item_list)]
 fn items(cursor: &mut Cursor, depth: usize, out: &mut [i64], at: usize) -> Result<Count, SheetError>

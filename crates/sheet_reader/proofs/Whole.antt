@@ -15,7 +15,7 @@ use Rattle.sheet_record.specs.declared.SheetNumbers.{SheetNumbers}
 use Rattle.sheet_reading.specs.Says.{invalid_at, stop_at}
 use Rattle.sheet_numbers.proofs.Readings.{kept, near_kept}
 use Rattle.sheet_axis.specs.Says.{Stops}
-use Rattle.sheet_axis.proofs.Joins.{pair_reads}
+use Rattle.sheet_axis.proofs.Joins.{pair_reads, pair_stops}
 use Rattle.sheet_axes.specs.declared.AxesRead.{AxesRead}
 use Rattle.sheet_axes.specs.Says.{first_of, said, refusal_of, AxesTo}
 use Rattle.sheet_heading.specs.declared.HeadingNumbers.{HeadingNumbers}
@@ -38,6 +38,12 @@ pub stops_whole : (text : List ℕ) (e : SheetError) → Stops (reading.read_she
     → (reading.sheet_of text ≡ stop_at text e) × (e.at ≤ length text)
 unfolding reading.sheet_of
 stops_whole text e p = (p.says (suc (length text)) (omega arith), p.inside)
+
+-- the heading is read, and the axes are not
+pub axes_stop : {text after : List ℕ} {n : HeadingNumbers} {mid : ℕ} {e : SheetError} → HeadingTo text 0 n mid → after ≡ text
+    → Stops (reading.read_axes within below4 8) after mid e → (reading.sheet_of text ≡ stop_at text e) × (e.at ≤ length text)
+unfolding reading.read_sheet
+axes_stop {text} h same s = stops_whole text _ (pair_stops sheet _ _ text 0 _ _ h.reads _ (rw same at s))
 
 module _ (text : List ℕ) (n : HeadingNumbers) (mid : ℕ) (h : HeadingTo text 0 n mid) (r : AxesRead) (points start end : List ℤ)
     (t : AxesTo text mid r.axes r.sizes points start end) where

@@ -13,6 +13,7 @@ use sheet_record::SheetNumbers;
 
 // J16, J23, J24: a text that is judged whole: the first of 600, 601 and 4 ends the reading; 2 and 3 are looked at only after it, so a
 // sheet that was read to its end may still be refused.
+#[tactic(auto, using(crate::proofs::Whole::axes_stop))]
 fn read_whole(
     text: &[u8],
     points: &mut [i64; POINTS_ROOM],

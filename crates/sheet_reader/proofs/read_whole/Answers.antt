@@ -2,8 +2,8 @@
 use Rattle.std.proofs.lemmas.Result.{err_from_is_err_and}
 use Rattle.rules.specs.Sheets.{sheet}
 use Rattle.rules.specs.SheetReading.{read_sheet}
-use Rattle.sheet_axis.proofs.Joins.{pair_fails, pair_stops}
-use Rattle.sheet_reader.proofs.Whole.{stops_whole, sized_whole, read_whole}
+use Rattle.sheet_axis.proofs.Joins.{pair_fails}
+use Rattle.sheet_reader.proofs.Whole.{stops_whole, axes_stop, sized_whole, read_whole}
 use Rattle.sheet_reader.proofs.read_whole.Goals as goal
 
 pub returns-in_err-first : goal.returns-in_err-first
@@ -14,12 +14,10 @@ returns-in_err-first c =
     rw (p.1, p.2) (stops_whole text _ (pair_fails sheet _ _ text 0 _ c.in_err-first.ensures.says))
 
 pub returns-in_err-rest : goal.returns-in_err-rest
-unfolding read_sheet
 returns-in_err-rest c =
     let p = err_from_is_err_and c.from_residual-in_err-rest.result c.from_residual-in_err-rest.ensures.1 in
     let first = c.in_ok-first.ensures in
-    let reads = rw (← first.same) at first.says.reads in
-    rw (p.1, p.2, ← first.same) (stops_whole c.heading.new.cursor.text.now _ (pair_stops sheet _ _ _ 0 _ _ reads _ c.in_err-rest.ensures.says))
+    rw (p.1, p.2) (axes_stop first.says first.same c.in_err-rest.ensures.says)
 
 pub returns-in-Some : goal.returns-in-Some
 returns-in-Some c =
