@@ -2,7 +2,7 @@
 // how many axes there are is known only at the end.
 #![tactic(auto)]
 
-ghost use Rattle.std.specs.Prelude.{◌≡◌};
+ghost use Rattle.std.specs.Prelude.{◌≡◌, length, OnOk};
 ghost use Rattle.sheet_reading.specs.Says.{Stands};
 ghost use Rattle.sheet_axes.specs.Says.{AxesSay};
 
@@ -39,6 +39,7 @@ pub fn read_axes(
     ensures same { cursor.new.text.now ≡ cursor.old.text.now }
     ensures says { AxesSay cursor.old.text.now cursor.old.at result points.new start.new end.new }
     ensures stands { Stands cursor.new.at result }
+    ensures ended { OnOk result (cursor.new.at ≡ length cursor.old.text.now) }
 {
     let mut sofar = None;
     for k in 0..MOST_AXES {
