@@ -1,5 +1,5 @@
 -- What is built of what was read. Assumes nothing.
-use Rattle.std.specs.Prelude.{List, ℤ, Float}
+use Rattle.std.specs.Prelude.{◌≡◌, List, ◌*◌, ℤ, take, Float}
 use Rattle.rules.specs.Build.{BuildInput, input_of}
 use Rattle.sheet_record.specs.declared.SheetNumbers.{SheetNumbers}
 use Rattle.sheet_record.specs.declared.SheetRead.{SheetRead}
@@ -24,3 +24,9 @@ input_read read =
 abbrev pub input_held : SheetNumbers → List ℤ → List ℤ → List ℤ → BuildInput
 input_held n points start end =
     input_of (config_read n) n.points n.axes (columns_at 258 n.axes n.points points) (columns_at 4 n.axes n.start start) (columns_at 4 n.axes n.end end)
+
+-- these lists begin with those numbers
+pub record Prepared (n : SheetNumbers) (points start end : List ℤ) (waypoints first last : List Float) : Type 0 where
+  pub waypoints_are : take (n.points * n.axes) waypoints ≡ columns_at 258 n.axes n.points points
+  pub first_is : take (n.start * n.axes) first ≡ columns_at 4 n.axes n.start start
+  pub last_is : take (n.end * n.axes) last ≡ columns_at 4 n.axes n.end end

@@ -7,7 +7,7 @@ ghost use Rattle.law_lists.specs.Lists.{listed};
 ghost use Rattle.rules.specs.Build.{given_by};
 ghost use Rattle.sheet_record.specs.Reached.{InReach};
 ghost use Rattle.sheet_columns.specs.Columns.{number_at, columns_at};
-ghost use Rattle.sheet_columns.specs.Input.{input_read};
+ghost use Rattle.sheet_columns.specs.Input.{input_read, Prepared};
 
 use rules::SplineInput;
 use sheet_record::SheetRead;
@@ -53,15 +53,14 @@ pub const WAYPOINTS_ROOM: usize = 2056;
 
 pub const NUMBERS_ROOM: usize = 24;
 
-// B11, B12: what a build is given of what was read: the configuration, and the lists by columns, which are written into arrays that are
-// lent.
-pub fn input<'a>(
+// B11, B12: the waypoints and the states' numbers of what was read, by columns, in the first cells of arrays that are lent.
+pub fn prepare(
     read: SheetRead,
-    waypoints: &'a mut [f64; WAYPOINTS_ROOM],
-    first: &'a mut [f64; NUMBERS_ROOM],
-    last: &'a mut [f64; NUMBERS_ROOM],
-) -> SplineInput<'a>
-    ensures { given_by result ≡ input_read read.entry }
+    waypoints: &mut [f64; WAYPOINTS_ROOM],
+    first: &mut [f64; NUMBERS_ROOM],
+    last: &mut [f64; NUMBERS_ROOM],
+)
+    ensures { let r = read.entry in Prepared r.numbers r.points.now r.start.now r.end.now waypoints.new first.new last.new }
 {
     let n = read.numbers;
     let points = Lists {
@@ -85,6 +84,20 @@ pub fn input<'a>(
     points.transpose(waypoints);
     start.transpose(first);
     end.transpose(last);
+}
+
+// B11, B12: what a build is given of what was read: the configuration, and the lists by columns, which are written into arrays that are
+// lent.
+pub fn input<'a>(
+    read: SheetRead,
+    waypoints: &'a mut [f64; WAYPOINTS_ROOM],
+    first: &'a mut [f64; NUMBERS_ROOM],
+    last: &'a mut [f64; NUMBERS_ROOM],
+) -> SplineInput<'a>
+    ensures { given_by result ≡ input_read read.entry }
+{
+    prepare(read, waypoints, first, last);
+    let n = read.numbers;
     SplineInput {
         config: sheet_config::config_of(n),
         points: n.points,
